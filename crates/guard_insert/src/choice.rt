@@ -3,6 +3,7 @@
 ghost use Rattle.std.specs.Prelude.{◌≡◌, ◌+◌, ◌^◌, ◌<◌, ◌≤◌, true, length, Some, None, OnOk};
 ghost use Rattle.rewrite_bodies.specs.calls.Guards.{can_trap, divides, guard, kind};
 ghost use Rattle.rewrite_bodies.specs.calls.Pieces.{const, i32};
+ghost use Rattle.rewrite_bodies.specs.calls.Facts.{needs};
 ghost use Rattle.rewrite_bodies.specs.calls.Landings.{most_landings};
 ghost use Rattle.rewrite_bodies.specs.calls.Rewrite.{checked, tested, guarded};
 ghost use Rattle.int_ops.specs.declared.operators.Binary.TheVariants.{DivS as DivSOf, DivU as DivUOf, RemS as RemSOf};
@@ -30,7 +31,7 @@ fn divides(operator: Binary) -> bool
     )
 }
 
-/// Whether an instruction has a guard.
+/// Whether an instruction can trap.
 pub fn can_trap(instruction: &Basic) -> bool
     ensures { result ≡ can_trap instruction.now }
 {
@@ -39,6 +40,14 @@ pub fn can_trap(instruction: &Basic) -> bool
         Basic::Load(..) | Basic::Store(..) | Basic::MemoryCopy | Basic::MemoryFill => true,
         _ => false,
     }
+}
+
+/// Whether the instruction at an offset of a function has a guard: where it can trap, and nothing
+/// answers for it.
+fn needs(context: &FunctionContext<'_, '_>, offset: u32, instruction: &Basic) -> bool
+    ensures { result ≡ needs context.now offset instruction.now }
+{
+    can_trap(instruction) && context.is_exposed(offset)
 }
 
 /// No trap.
@@ -367,7 +376,7 @@ fn guarded_by_landing(
     context.to_landing(writer, labels, number)
 }
 
-/// The guard with the test of its verdict, where the instruction has one.
+/// The guard with the test of its verdict, where the instruction needs one.
 pub fn guarded(
     context: &FunctionContext<'_, '_>,
     writer: &mut CodeWriter,
@@ -378,10 +387,10 @@ pub fn guarded(
 ) -> Result<(), NoMemory>
     requires shallow { labels + most_landings + 1 < 2 ^ 32 }
     requires room { length places.now ≤ context.now.slots }
-    ensures { OnOk result (Emits (guarded (can_trap instruction.now) context.now labels places.now
-        offset instruction.now) writer.old writer.new) }
+    ensures { OnOk result (Emits (guarded (needs context.now offset instruction.now) context.now
+        labels places.now offset instruction.now) writer.old writer.new) }
 {
-    if !can_trap(instruction) {
+    if !needs(context, offset, instruction) {
         return Ok(());
     }
     match context.landing_of(instruction, places) {

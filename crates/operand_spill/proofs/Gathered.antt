@@ -7,7 +7,7 @@ use Rattle.wasm_syntax.specs.Module.{type_at}
 use Rattle.wasm_syntax.specs.Machine.{result_of}
 use Rattle.rewrite_bodies.specs.Numbering.{import_count}
 use Rattle.rewrite_bodies.specs.calls.Slots.{Place, Landing, Ctx, less, grown, under, after_plain}
-use Rattle.rewrite_bodies.specs.calls.Landings.{landing_of, with_some, landing_call, landings_call, landings_jump, landings_from}
+use Rattle.rewrite_bodies.specs.calls.Landings.{landing_at, with_some, landing_call, landings_call, landings_jump, landings_from}
 use Rattle.operand_spill.specs.calls.Walking.{Walking}
 use Rattle.operand_spill.specs.calls.Before.{dead, live, after_call, after_jump, before}
 use Rattle.operand_spill.specs.inner.Knowing.{Places, Starts, Knows, Proceeds, AreDead}
@@ -18,19 +18,19 @@ module _ (C : Ctx) where
   gathered_same : (code : List Placed) (p q : Places) (xs : List Landing) → ((j : ℕ) → p j ≡ q j) → gathered C code p xs ≡ gathered C code q xs
   gathered_same [] p q xs h = refl
   gathered_same (x ∷ code) p q xs h =
-      ap (λ o. gathered C code (λ j. p (suc j)) (noted C o x.code xs)) (h 0) ∙ gathered_same code (λ j. p (suc j)) (λ j. q (suc j)) (noted C (q 0) x.code xs) (λ j. h (suc j))
+      ap (λ o. gathered C code (λ j. p (suc j)) (noted C o x.at x.code xs)) (h 0) ∙ gathered_same code (λ j. p (suc j)) (λ j. q (suc j)) (noted C (q 0) x.at x.code xs) (λ j. h (suc j))
 
   -- what stands behind a list, `else` or `end`, has no landing
   abbrev Quiet : Item → Type 0
-  Quiet e = (o : Option (List Place)) (xs : List Landing) → noted C o e xs ≡ xs
+  Quiet e = (o : Option (List Place)) (at : ℕ) (xs : List Landing) → noted C o at e xs ≡ xs
 
   quiet_end : Quiet End
-  quiet_end None xs = refl
-  quiet_end (Some es) xs = refl
+  quiet_end None at xs = refl
+  quiet_end (Some es) at xs = refl
 
   quiet_else : Quiet Else
-  quiet_else None xs = refl
-  quiet_else (Some es) xs = refl
+  quiet_else None at xs = refl
+  quiet_else (Some es) at xs = refl
 
   -- dead code
   dead_gathers : (nodes : Nodes) (e : Item) (at : ℕ) (more : List Placed) (behind : Places) (xs : List Landing) → IsTree nodes → Quiet e → gathered C (write nodes (placed at e ∷ more)) (dead nodes behind) xs ≡ gathered C more behind xs
@@ -71,8 +71,8 @@ module _ (C : Ctx) where
 
   -- live code
   live_gathers : (nodes : Nodes) (es : List Place) (e : Item) (at : ℕ) (more : List Placed) (behind : Places) (xs : List Landing) → IsTree nodes → Quiet e → gathered C (write nodes (placed at e ∷ more)) (live C es nodes behind) xs ≡ gathered C more behind (landings_from C es nodes xs)
-  live_gathers stop es e at more behind xs it q = ap (gathered C more behind) (q (Some es) xs)
-  live_gathers (basic o i rest) es e at more behind xs it q = live_gathers rest (after_plain C es i) e at more behind (with_some (landing_of i es) xs) it q
+  live_gathers stop es e at more behind xs it q = ap (gathered C more behind) (q (Some es) at xs)
+  live_gathers (basic o i rest) es e at more behind xs it q = live_gathers rest (after_plain C es i) e at more behind (with_some (landing_at C o i es) xs) it q
   live_gathers (jump o j rest) es e at more behind xs it q =
       jump_gathers j es xs (write rest (placed at e ∷ more)) (λ left. live C left rest behind) (dead rest behind) (λ es' xs'. landings_from C es' rest xs') (gathered C more behind)
       (λ es' xs'. live_gathers rest es' e at more behind xs' it q) (λ xs'. dead_gathers rest e at more behind xs' it q)
@@ -101,19 +101,19 @@ module _ (C : Ctx) where
   abbrev pub Gathers : List Placed → Places → ℕ → List Landing → List Landing → Type 0
   Gathers code whole pc found all_ = gathered C (drop pc code) (λ j. whole (pc + j)) found ≡ all_
 
-  one_step : (code : List Placed) (whole : Places) (pc at : ℕ) (i : Item) (xs : List Landing) → Starts code pc at i → gathered C (drop pc code) (λ j. whole (pc + j)) xs ≡ gathered C (drop (suc pc) code) (λ j. whole (suc pc + j)) (noted C (whole pc) i xs)
+  one_step : (code : List Placed) (whole : Places) (pc at : ℕ) (i : Item) (xs : List Landing) → Starts code pc at i → gathered C (drop pc code) (λ j. whole (pc + j)) xs ≡ gathered C (drop (suc pc) code) (λ j. whole (suc pc + j)) (noted C (whole pc) at i xs)
   one_step code whole pc at i xs s =
       let here : pc + 0 ≡ pc = omega arith in
       ap (λ z. gathered C z (λ j. whole (pc + j)) xs) s
-      ∙ ap (λ n. gathered C (drop (suc pc) code) (λ j. whole (pc + suc j)) (noted C (whole n) i xs)) here
-      ∙ gathered_same (drop (suc pc) code) (λ j. whole (pc + suc j)) (λ j. whole (suc pc + j)) (noted C (whole pc) i xs) (λ j. let z : pc + suc j ≡ suc pc + j = omega arith in ap whole z)
+      ∙ ap (λ n. gathered C (drop (suc pc) code) (λ j. whole (pc + suc j)) (noted C (whole n) at i xs)) here
+      ∙ gathered_same (drop (suc pc) code) (λ j. whole (pc + suc j)) (λ j. whole (suc pc + j)) (noted C (whole pc) at i xs) (λ j. let z : pc + suc j ≡ suc pc + j = omega arith in ap whole z)
 
   -- a live instruction
-  pub live_noted : (code : List Placed) (whole : Places) (pc at : ℕ) (i : Item) (w : Walking) (xs all_ : List Landing) → Starts code pc at i → Knows C code whole pc w → Gathers code whole pc xs all_ → Gathers code whole (suc pc) (noted C (Some w.places) i xs) all_
+  pub live_noted : (code : List Placed) (whole : Places) (pc at : ℕ) (i : Item) (w : Walking) (xs all_ : List Landing) → Starts code pc at i → Knows C code whole pc w → Gathers code whole pc xs all_ → Gathers code whole (suc pc) (noted C (Some w.places) at i xs) all_
   live_noted code whole pc at i w xs all_ s k h =
       let here : pc + 0 ≡ pc = omega arith in
       let placed_ : whole pc ≡ Some w.places = ap whole (sym here) ∙ k.places 0 ∙ first_live k.nodes _ in
-      ap (λ o. gathered C (drop (suc pc) code) (λ j. whole (suc pc + j)) (noted C o i xs)) (sym placed_) ∙ sym (one_step code whole pc at i xs s) ∙ h
+      ap (λ o. gathered C (drop (suc pc) code) (λ j. whole (suc pc + j)) (noted C o at i xs)) (sym placed_) ∙ sym (one_step code whole pc at i xs s) ∙ h
     where
       first_live : (nodes : Nodes) (behind : Places) → live C w.places nodes behind 0 ≡ Some w.places
       first_live stop behind = refl
@@ -139,7 +139,7 @@ module _ (C : Ctx) where
       by_code a b (inr h) =
           let here : pc + 0 ≡ pc = omega arith in
           ap (λ z. gathered C z (λ j. whole (pc + j)) xs) h.1
-          ∙ ap (λ o. gathered C b (λ j. whole (pc + suc j)) (noted C o h.0.code xs)) (ap whole here ∙ none)
+          ∙ ap (λ o. gathered C b (λ j. whole (pc + suc j)) (noted C o h.0.at h.0.code xs)) (ap whole here ∙ none)
           ∙ gathered_same b (λ j. whole (pc + suc j)) (λ j. whole (suc pc + j)) xs (λ j. let z : pc + suc j ≡ suc pc + j = omega arith in ap whole z)
 
   pub dead_passed : (code : List Placed) (whole : Places) (n from next : ℕ) (xs all_ : List Landing) → next ≡ from + n → AreDead whole from next → Gathers code whole from xs all_ → Gathers code whole next xs all_
@@ -164,7 +164,7 @@ module _ (C : Ctx) where
       dropped (x ∷ code) (suc n) le = dropped code n (omega (arith, le))
 
   -- a turn of the loop
-  pub walked : (targets : List ℕ) (ops : List Op) (whole : Places) (pc next : ℕ) (o : Op) (w : Walking) (xs xs' all_ : List Landing) → slice_get ops pc ≡ Some o → pc < length ops → Proceeds C (code_of targets ops) whole pc w → Gathers (code_of targets ops) whole pc xs all_ → xs' ≡ noted C (Some w.places) (item_of targets o.code) xs → pc < next → AreDead whole (pc + 1) next → Gathers (code_of targets ops) whole next xs' all_
+  pub walked : (targets : List ℕ) (ops : List Op) (whole : Places) (pc next : ℕ) (o : Op) (w : Walking) (xs xs' all_ : List Landing) → slice_get ops pc ≡ Some o → pc < length ops → Proceeds C (code_of targets ops) whole pc w → Gathers (code_of targets ops) whole pc xs all_ → xs' ≡ noted C (Some w.places) o.at (item_of targets o.code) xs → pc < next → AreDead whole (pc + 1) next → Gathers (code_of targets ops) whole next xs' all_
   walked targets ops whole pc next o w xs xs' all_ there lt p g noted_ on d =
       let k = knows_here C targets ops whole pc w lt p in
       let one : pc + 1 ≡ suc pc = omega arith in

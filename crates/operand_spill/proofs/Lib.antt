@@ -9,3 +9,4 @@ pub mod Steps
 pub mod Skips
 pub mod Arms
 pub mod Gathered
+pub mod Exposings

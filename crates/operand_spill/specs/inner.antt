@@ -2,3 +2,4 @@
 pub mod Greatest
 pub mod Knowing
 pub mod Noting
+pub mod Exposing

@@ -3,6 +3,8 @@
 #![tactic(auto)]
 
 mod effect;
+mod exposing;
+mod facts;
 mod flow;
 mod heights;
 mod labels;
@@ -15,6 +17,7 @@ mod slots;
 mod walk;
 
 pub use effect::{result_place, takes};
+pub use exposing::exposed;
 pub use flow::Flow;
 pub use labels::{Label, OpenBlock};
 pub use noting::landings;

@@ -6,15 +6,16 @@ ghost use Rattle.wasm_syntax.specs.Module.{type_at};
 ghost use Rattle.wasm_syntax.specs.Tree.{Tree, Writes, Call as CallOf, jump_of, item_of};
 ghost use Rattle.rewrite_bodies.specs.Numbering.{import_count};
 ghost use Rattle.rewrite_bodies.specs.calls.Slots.{Ctx};
-ghost use Rattle.rewrite_bodies.specs.calls.Landings.{landings_from};
+ghost use Rattle.rewrite_bodies.specs.calls.Landings.{landings_from, landing_at, with_some};
 ghost use Rattle.operand_spill.specs.inner.Noting.{noted, noted_call, noted_jump};
 
 use crate::Walk;
 use crate::places::advance;
 use causes::NoMemory;
-use rewrite_code::Landings;
+use guard_insert::can_trap;
+use rewrite_code::{Landings, Offsets};
 use std::alloc::Global;
-use wasm_syntax::{FuncType, Instr, Jump, ModuleParts, Op, ValType, read_op};
+use wasm_syntax::{Basic, FuncType, Instr, Jump, ModuleParts, Op, ValType, read_op};
 
 /// The landing behind a call of a function of this type, which may be an import.
 fn note_type(
@@ -78,18 +79,38 @@ fn note_jump(
     }
 }
 
+/// The landing of an instruction at an offset, if it has one, and needs a guard.
+fn note_guard(
+    found: &mut Landings,
+    walk: &Walk,
+    exposed: &Offsets,
+    offset: u32,
+    instruction: Basic,
+) -> Result<(), NoMemory>
+    ensures { (C : Ctx) → C.exposed ≡ exposed.now → OnOk result (found.new
+        ≡ with_some (landing_at C offset instruction walk.now.places) found.old) }
+{
+    if can_trap(&instruction) && exposed.contains(offset) {
+        found.note_guard(&instruction, walk.places())
+    } else {
+        Ok(())
+    }
+}
+
 /// The landing of a live instruction, if it has one.
 fn note(
     found: &mut Landings,
     walk: &Walk,
     source: &ModuleParts,
-    code: Instr,
+    exposed: &Offsets,
+    op: Op,
 ) -> Result<(), NoMemory>
-    ensures { (C : Ctx) (targets : List ℕ) → C.source ≡ source.now → OnOk result
-        (found.new ≡ noted C (Some walk.now.places) (item_of targets code) found.old) }
+    ensures { (C : Ctx) (targets : List ℕ) → C.source ≡ source.now → C.exposed ≡ exposed.now
+        → OnOk result (found.new
+        ≡ noted C (Some walk.now.places) op.at (item_of targets op.code) found.old) }
 {
-    match code {
-        Instr::Basic(instruction) => found.note_guard(&instruction, walk.places()),
+    match op.code {
+        Instr::Basic(instruction) => note_guard(found, walk, exposed, op.at, instruction),
         Instr::Jump(code) => note_jump(found, walk, source, code),
         Instr::Block(_) => Ok(()),
         Instr::Loop(_) => Ok(()),
@@ -99,15 +120,16 @@ fn note(
     }
 }
 
-/// The landings of a body in a function with these locals.
+/// The landings of a body in a function with these locals, where these instructions need a guard.
 pub fn landings(
     alloc: Global,
     locals: &[ValType],
     source: &ModuleParts,
     ops: &[Op],
+    exposed: &Offsets,
 ) -> Result<Landings, NoMemory>
     ensures { (C : Ctx) (targets : List ℕ) (tree : Tree) → C.locals ≡ locals.now
-        → C.source ≡ source.now → Writes targets ops.now tree
+        → C.source ≡ source.now → C.exposed ≡ exposed.now → Writes targets ops.now tree
         → IfOk result (λ found. found ≡ landings_from C [] tree.nodes []) }
 {
     let mut found = Landings::new(alloc);
@@ -115,7 +137,7 @@ pub fn landings(
     let mut pc = 0;
     while pc < ops.len() {
         let op = read_op(ops, pc);
-        note(&mut found, &walk, source, op.code)?;
+        note(&mut found, &walk, source, exposed, op)?;
         pc = advance(&mut walk, locals, source, ops, pc)?;
     }
     Ok(found)

@@ -36,7 +36,7 @@ use Rattle.rewrite_bodies.proofs.Parts.{put_keeps, cut_all, fits_put, settle, st
 use Rattle.rewrite_bodies.specs.calls.Guards.{helper, entry_label, says, first_table}
 use Rattle.rewrite_bodies.specs.calls.Telling.{tell_labels, tell_locals, tell_frame, tell_ops}
 use Rattle.std.proofs.lemmas.List.{map-append}
-use Rattle.rewrite_bodies.specs.calls.Standing.{Linked, After, Speaks, HelperLinked, Stands}
+use Rattle.rewrite_bodies.specs.calls.Standing.{Linked, Speaks, HelperLinked, Stands}
 use Rattle.rewrite_bodies.proofs.Sim.{refit, refit_under, room_height, grown-append, grown_fits, len_of, shell, tgt, wit, wit_under, armed, if_zero_to}
 use Rattle.rewrite_bodies.proofs.Control.{flag_len, flag_down, both_to, grown_longer}
 use Rattle.rewrite_bodies.proofs.Unwind.{frame_out, Hands, hand_to, hand_left_to, Up, up_all, renamed, AllIn, landed_out}
@@ -44,8 +44,11 @@ use Rattle.wasm_syntax.specs.declared.host.Write.{Write}
 use Rattle.wasm_laws.proofs.Progress.{types_append, zero_types, same_of}
 use Rattle.wasm_syntax.proofs.Types.{same_type_is, same_types_are, same_functype_refl}
 use Rattle.rewrite_bodies.proofs.Laid.{few_landings, room_landed, into_body}
-use Rattle.rewrite_bodies.specs.calls.Landings.{number_of, landing_behind, landings_from, with_landings}
+use Rattle.rewrite_bodies.specs.calls.Landings.{number_of, landing_behind, landings_from, with_landings, landed}
 use Rattle.rewrite_bodies.proofs.Landed.{exit_branch, marked, types_marked, fits_marked}
+use Rattle.rewrite_bodies.specs.inner.Promises.{Comes}
+use Rattle.rewrite_bodies.specs.calls.Facts.{exposed_in}
+use Rattle.rewrite_bodies.specs.calls.Known.{nodes_of}
 
 -- the locals of a function that is called on these arguments
 pub types-locals : (args : List Value) (ps ls : List ValType) → types args ≡ ps → types (args ++ zeros ls) ≡ ps ++ ls
@@ -166,7 +169,7 @@ module _ (M M' : Engine) (E : ℕ) (gl : List ValType) (W : Wrap) (S : Stands M 
     size = len_of l C.locals f.size
 
     -- a verdict is a trap, and this code hands over the operands of this frame: it hands over its values, and then the others do
-    trap_out : (t : Config) (j : ℕ) (k : Nodes) (s ex1 : List Value) (H : Nodes) → types ex1 ≡ added C.slots → slice_get ex1 (kind_at C) ≡ Some (values.I32 (suc j)) → Hands M' C sp M l (leaves None) (armed X k s).below X.frames g 0 co (ls + length C.landings) H (LL ∷ Ls) (slice_set ex1 (offset_at C) (values.I32 o)) → To M' 1 (C.slots + 40) t (st (armed X k s) (l ++ ex1) [] (const (values.I32 o) (set C (offset_at C) H)) g0 co) → After M M' E gl W t (traps (suc j) (config (FF ∷ Fs) g co))
+    trap_out : (t : Config) (j : ℕ) (k : Nodes) (s ex1 : List Value) (H : Nodes) → types ex1 ≡ added C.slots → slice_get ex1 (kind_at C) ≡ Some (values.I32 (suc j)) → Hands M' C sp M l (leaves None) (armed X k s).below X.frames g 0 co (ls + length C.landings) H (LL ∷ Ls) (slice_set ex1 (offset_at C) (values.I32 o)) → To M' 1 (C.slots + 40) t (st (armed X k s) (l ++ ex1) [] (const (values.I32 o) (set C (offset_at C) H)) g0 co) → Comes M M' E gl W t (traps (suc j) (config (FF ∷ Fs) g co))
     trap_out t j k s ex1 H room kd hands pre =
         let X1 = armed X k s in
         let v3 = frame_out M' C sp M l f.size ex1 (LL ∷ Ls) (ls + length C.landings) X1.kind X1.below X1.frames g 0 co o (suc j) H room kd gt (exit_branch C l ex None s k LL Ls e ss f.labels) hands in
@@ -175,7 +178,7 @@ module _ (M M' : Engine) (E : ℕ) (gl : List ValType) (W : Wrap) (S : Stands M 
         inr (wf, weaken M' (up_all M M' E gl W S.speaks Fs ws g (tell_frame (suc j) o FF co) t 1 E r fs wf up) (omega arith) (omega arith))
 
     -- the kind that a guard gave, inside its arm
-    pub trap_from : (t : Config) (j : ℕ) (k : Nodes) → To M' 1 30 t (st (armed X k ops) (l ++ ex) (values.I32 (suc j) ∷ []) (unwind_kind C ls es o) g0 co) → After M M' E gl W t (traps (suc j) (config (FF ∷ Fs) g co))
+    pub trap_from : (t : Config) (j : ℕ) (k : Nodes) → To M' 1 30 t (st (armed X k ops) (l ++ ex) (values.I32 (suc j) ∷ []) (unwind_kind C ls es o) g0 co) → Comes M M' E gl W t (traps (suc j) (config (FF ∷ Fs) g co))
     trap_from t j k pre =
         let h = f.labels in
         let at : slice_get (types ex) (kind_at C) ≡ Some I32 = rw f.room (added_kind C.slots) in
@@ -190,7 +193,7 @@ module _ (M M' : Engine) (E : ℕ) (gl : List ValType) (W : Wrap) (S : Stands M 
         trap_out t j k ops ex1 (hand C es (to_exit C ls)) (types-slice_set ex (kind_at C) I32 v at refl ∙ f.room) (slice_get-put_same ex (kind_at C) I32 v at) hands (weaken M' (seq M' pre v1) (omega arith) (omega arith))
 
     -- or the frame is left for a landing, the topmost operands along with the branch
-    pub trap_landed : (t : Config) (j : ℕ) (k : Nodes) (x : Landing) (n : ℕ) (vs others : List Value) → number_of x C.landings ≡ Some n → x.kind ≡ suc j → top x.carried ops ≡ Some vs → ((ex2 : List Value) → FitsLabels C l ex2 None (LL ∷ Ls) (e ∷ ss) → AllIn l ex2 others x.places) → length x.places ≤ C.slots → tell_ops (vs ++ others) co ≡ tell_labels (LL ∷ Ls) co → To M' 1 30 t (st X (l ++ slice_set ex (offset_at C) (values.I32 o)) (values.I32 1 ∷ ops) (jump 0 (BrIf (ls + n)) k) g0 co) → After M M' E gl W t (traps (suc j) (config (FF ∷ Fs) g co))
+    pub trap_landed : (t : Config) (j : ℕ) (k : Nodes) (x : Landing) (n : ℕ) (vs others : List Value) → number_of x C.landings ≡ Some n → x.kind ≡ suc j → top x.carried ops ≡ Some vs → ((ex2 : List Value) → FitsLabels C l ex2 None (LL ∷ Ls) (e ∷ ss) → AllIn l ex2 others x.places) → length x.places ≤ C.slots → tell_ops (vs ++ others) co ≡ tell_labels (LL ∷ Ls) co → To M' 1 30 t (st X (l ++ slice_set ex (offset_at C) (values.I32 o)) (values.I32 1 ∷ ops) (jump 0 (BrIf (ls + n)) k) g0 co) → Comes M M' E gl W t (traps (suc j) (config (FF ∷ Fs) g co))
     trap_landed t j k x n vs others is kind top_is places few told_ pre =
         let low = room_height C es N f.labels.2 in
         let at : slice_get (types ex) (offset_at C) ≡ Some I32 = rw f.room (added_offset C.slots) in
@@ -263,7 +266,7 @@ module _ (M M' : Engine) (E : ℕ) (gl : List ValType) (W : Wrap) (S : Stands M 
       fits_marks true (Some u) ex2 Ls' ss' low h = h
 
       -- where the target stands when the function has given its results
-      come_back : (g' : World) (vs' : List Value) (t : Config) → types ex1 ≡ types ex → NoKind C ex1 others → Below → WorldFits M gl g' → exactly r1 vs' ≡ Some vs' → (q : ℕ) → q ≤ 2 * C.slots + 40 → To M' 1 q t (st Y (l ++ ex1) (vs' ++ lies_under others) k1 (flagged M g' (values.I32 0)) co) → After M M' E gl W t (next (config (frame ix r cl l (label (vs' ++ below) rest en kd ∷ Ls) ∷ Fs) g' co))
+      come_back : (g' : World) (vs' : List Value) (t : Config) → types ex1 ≡ types ex → NoKind C ex1 others → Below → WorldFits M gl g' → exactly r1 vs' ≡ Some vs' → (q : ℕ) → q ≤ 2 * C.slots + 40 → To M' 1 q t (st Y (l ++ ex1) (vs' ++ lies_under others) k1 (flagged M g' (values.I32 0)) co) → Comes M M' E gl W t (next (config (frame ix r cl l (label (vs' ++ below) rest en kd ∷ Ls) ∷ Fs) g' co))
       unfolding int_binary
       come_back g' vs' t same nk hb wf' x q le pre =
           let room1 = same ∙ f.room in
@@ -331,7 +334,7 @@ module _ (M M' : Engine) (E : ℕ) (gl : List ValType) (W : Wrap) (S : Stands M 
     Y_frame Z ex1 stk nd = frame Z.idx Z.result 0 (l ++ ex1) (label stk nd 0 Z.kind ∷ Z.below)
 
     -- a host function has answered
-    answered : (ex1 below : List Value) (e' : List Place) (rest : Nodes) (i : Import) (type : FuncType) (vs : List Value) (dq : Bool) (others : Option UnderWay) (call : HostCall) (stk : List Value) (nd : Nodes) (t : Config) (n : ℕ) (A A' : Answer) → types ex1 ≡ types ex → NoKind C ex1 others → Below ex1 below e' rest (imported i type) vs dq others → n ≤ 2 * C.slots + 40 → AnswerRel M gl (result_of type) (values.I32 0) A A' → Gets M' 1 n t (host M' A' call (lies_under ex1 below e' rest (imported i type) vs dq others others) (k1 ex1 below e' rest (imported i type) vs dq others) (Y_frame (Y ex1 below e' rest (imported i type) vs dq others) ex1 stk nd) (label stk nd 0 (Y ex1 below e' rest (imported i type) vs dq others).kind) (Y ex1 below e' rest (imported i type) vs dq others).below (Y ex1 below e' rest (imported i type) vs dq others).frames g0 co) → After M M' E gl W t (host M A call below rest FF LL Ls Fs g co)
+    answered : (ex1 below : List Value) (e' : List Place) (rest : Nodes) (i : Import) (type : FuncType) (vs : List Value) (dq : Bool) (others : Option UnderWay) (call : HostCall) (stk : List Value) (nd : Nodes) (t : Config) (n : ℕ) (A A' : Answer) → types ex1 ≡ types ex → NoKind C ex1 others → Below ex1 below e' rest (imported i type) vs dq others → n ≤ 2 * C.slots + 40 → AnswerRel M gl (result_of type) (values.I32 0) A A' → Gets M' 1 n t (host M' A' call (lies_under ex1 below e' rest (imported i type) vs dq others others) (k1 ex1 below e' rest (imported i type) vs dq others) (Y_frame (Y ex1 below e' rest (imported i type) vs dq others) ex1 stk nd) (label stk nd 0 (Y ex1 below e' rest (imported i type) vs dq others).kind) (Y ex1 below e' rest (imported i type) vs dq others).below (Y ex1 below e' rest (imported i type) vs dq others).frames g0 co) → Comes M M' E gl W t (host M A call below rest FF LL Ls Fs g co)
     answered ex1 below e' rest i type vs dq others call stk nd t n (replied w v) A' same nk hb le h pre =
         come_back ex1 below e' rest (imported i type) vs dq others w (option_to_list v) t same nk hb h.1 h.2 n le (rw h.0 at pre)
     answered ex1 below e' rest i type vs dq others call stk nd t n (told k) A' same nk hb le h pre = absurd h
@@ -341,13 +344,15 @@ module _ (M M' : Engine) (E : ℕ) (gl : List ValType) (W : Wrap) (S : Stands M 
     -- a defined function begins
     begun : (ex1 below : List Value) (e' : List Place) (rest : Nodes) (b : Body) (tree : Tree) (type : FuncType) (vs : List Value) (dq : Bool) (others : Option UnderWay) (g' : ℕ) (stk : List Value) (nd : Nodes) (t : Config) (n : ℕ) (d : Bool) → function_at M.program g' ≡ Some (defined b tree type) → DirectFits (defined b tree type) dq others → types ex1 ≡ types ex → NoKind C ex1 others → Below ex1 below e' rest (defined b tree type) vs dq others → types (reverse vs) ≡ type.params → n ≤ 2 * C.slots + 40 → nat_lt (suc (length Fs)) M.depth ≡ d
         → ((k : Linked M M' E gl g' b tree type) → let Z = Y ex1 below e' rest (defined b tree type) vs dq others in Gets M' 1 n t (enters M' (nat_lt (suc (length Z.frames)) M'.depth) (entered (mapped M.program.module_ g') k.new (tree_of (body (ctx_of M.program g' b type k.slots) tree.nodes)) type (reverse vs)) (lies_under ex1 below e' rest (defined b tree type) vs dq others others) 0 (k1 ex1 below e' rest (defined b tree type) vs dq others) (Y_frame Z ex1 stk nd) (label stk nd 0 Z.kind) Z.below Z.frames g0 co))
-        → After M M' E gl W t (enters M d (entered g' b tree type (reverse vs)) below o rest FF LL Ls Fs g co)
+        → Comes M M' E gl W t (enters M d (entered g' b tree type (reverse vs)) below o rest FF LL Ls Fs g co)
     begun ex1 below e' rest b tree type vs dq others g' stk nd t n false at df same nk hb ty le d pre = inl refl
     begun ex1 below e' rest b tree type vs dq others g' stk nd t n true at df same nk hb ty le d pre =
         let k = S.functions g' b tree type at in
         let C0 = ctx_of M.program g' b type k.slots in
+        let os = exposed_in tree.nodes in
+        let C1 = landed C0 os [] in
         let C' = with_landings C0 tree.nodes in
-        let few_ = few_landings C0 [] tree.nodes [] (omega arith) in
+        let few_ = few_landings C1 [] tree.nodes [] (omega arith) in
         let args = reverse vs in
         let ex' = zeros (added k.slots) in
         let Z = Y ex1 below e' rest (defined b tree type) vs dq others in
@@ -359,13 +364,13 @@ module _ (M M' : Engine) (E : ℕ) (gl : List ValType) (W : Wrap) (S : Stands M 
         let s1 : To M' 1 n t mid = rw (depth, locals) at (pre k) in
         let s3 : To M' 0 25 mid (config (t_frame now (entered g' b tree type args) (wit C' ex' ([] ∷ [])) ∷ stands_under Z ex1 (lies_under ex1 below e' rest (defined b tree type) vs dq others others) code) g0 co) = into_body M' (mapped M.program.module_ g') (result_of type) ((args ++ zeros (declared_locals b.groups)) ++ ex') (stands_under Z ex1 (lies_under ex1 below e' rest (defined b tree type) vs dq others others) code) g0 co C' tree.nodes few_ in
         let callee : FitsFrame M E gl None (entered g' b tree type args) (wit C' ex' ([] ∷ [])) =
-        record { size = types-locals args type.params (declared_locals b.groups) ty; room = zero_types (added k.slots); idx = refl; result = refl; funcs = refl; base = refl; helpers = refl; flag = ap global_types (sym f.funcs) ∙ f.flag; small = k.small; narrow = k.narrow; labels = (tt, tt, room_landed C0 (landings_from C0 [] tree.nodes []) [] tree.nodes k.room, refl, tt); no_kind = tt } in (
+        record { size = types-locals args type.params (declared_locals b.groups) ty; room = zero_types (added k.slots); idx = refl; result = refl; funcs = refl; base = refl; helpers = refl; flag = ap global_types (sym f.funcs) ∙ f.flag; small = k.small; exposed = ap (λ q. exposed_in (nodes_of q)) (sym at); narrow = k.narrow; labels = (tt, tt, room_landed C0 os (landings_from C1 [] tree.nodes []) [] tree.nodes k.room, refl, tt); no_kind = tt } in (
           wit C' ex' ([] ∷ []) ∷ wit_under C ex1 (e' ∷ ss) others ∷ ws,
           (wf, (callee, (refit_under l (label below rest en kd ∷ Ls) ex1 (e' ∷ ss) others (result_of type) o f refl same hb nk, fs))),
           subst (λ z. To M' 1 E t (config (t_frame now (entered g' b tree type args) (wit C' ex' ([] ∷ [])) ∷ z) g0 co)) (frames_under ex1 below e' rest b tree type vs dq others df) (weaken M' (seq M' s1 s3) (omega arith) (omega (arith, le, f.small))),
         )
 
-    pub called : (ex1 below : List Value) (e' : List Place) (rest : Nodes) (fn : Function) (vs : List Value) (dq : Bool) (others : Option UnderWay) (g' : ℕ) (stk : List Value) (nd : Nodes) (t T : Config) (n : ℕ) (q : Bool) (args : List Value) → function_at M.program g' ≡ Some fn → DirectFits fn dq others → cut (length (function_type fn).params) args ≡ parts vs (lies_under ex1 below e' rest fn vs dq others others) → types ex1 ≡ types ex → NoKind C ex1 others → Below ex1 below e' rest fn vs dq others → n ≤ 2 * C.slots + 35 → same_types (types (reverse vs)) (function_type fn).params ≡ q → To M' 0 n t T → step M' T ≡ Calling ex1 below e' rest fn vs dq others g' args stk nd → After M M' E gl W t (applied_if M q fn g' (reverse vs) below o rest FF LL Ls Fs g co)
+    pub called : (ex1 below : List Value) (e' : List Place) (rest : Nodes) (fn : Function) (vs : List Value) (dq : Bool) (others : Option UnderWay) (g' : ℕ) (stk : List Value) (nd : Nodes) (t T : Config) (n : ℕ) (q : Bool) (args : List Value) → function_at M.program g' ≡ Some fn → DirectFits fn dq others → cut (length (function_type fn).params) args ≡ parts vs (lies_under ex1 below e' rest fn vs dq others others) → types ex1 ≡ types ex → NoKind C ex1 others → Below ex1 below e' rest fn vs dq others → n ≤ 2 * C.slots + 35 → same_types (types (reverse vs)) (function_type fn).params ≡ q → To M' 0 n t T → step M' T ≡ Calling ex1 below e' rest fn vs dq others g' args stk nd → Comes M M' E gl W t (applied_if M q fn g' (reverse vs) below o rest FF LL Ls Fs g co)
     called ex1 below e' rest fn vs dq others g' stk nd t T n false args at df c same nk hb le ty pre st_ = tt
     called ex1 below e' rest (imported i type) vs dq others g' stk nd t T n true args at df c same nk hb le ty pre st_ =
         let k = S.imports g' i type at in
@@ -382,7 +387,7 @@ module _ (M M' : Engine) (E : ℕ) (gl : List ValType) (W : Wrap) (S : Stands M 
         let e2 = e1 ∙ ap₂ (λ A z. host M' A (host_call z i type given) (lies_under ex1 below e' rest (imported i type) vs dq others others) kk FT (label stk nd 0 Z.kind) Z.below Z.frames g0 co) heard k.same in
         let go : Gets M' 1 (n + 1) t (host M' (served_by hc g0 g.replies) hc (lies_under ex1 below e' rest (imported i type) vs dq others others) kk FT (label stk nd 0 Z.kind) Z.below Z.frames g0 co) = weaken M' (seq M' pre (one_step M' T _ e2)) (omega arith) (omega arith) in
         let quietly : answer M.collects M.program.module_ hc g ≡ served_by hc g g.replies = ap (λ c. answer c M.program.module_ hc g) S.quiet in
-        subst (λ A. After M M' E gl W t (host M A hc below rest FF LL Ls Fs g co)) (sym quietly) (answered ex1 below e' rest i type vs dq others hc stk nd t (n + 1) (served_by hc g g.replies) (served_by hc g0 g.replies) same nk hb (omega (arith, le)) (served_rel M gl (values.I32 0) hc g wf g.replies) go)
+        subst (λ A. Comes M M' E gl W t (host M A hc below rest FF LL Ls Fs g co)) (sym quietly) (answered ex1 below e' rest i type vs dq others hc stk nd t (n + 1) (served_by hc g g.replies) (served_by hc g0 g.replies) same nk hb (omega (arith, le)) (served_rel M gl (values.I32 0) hc g wf g.replies) go)
     called ex1 below e' rest (defined b tree type) vs dq others g' stk nd t T n true args at df c same nk hb le ty pre st_ =
         begun ex1 below e' rest b tree type vs dq others g' stk nd t (n + 1) (nat_lt (suc (length Fs)) M.depth) at df same nk hb (same_types_are (types (reverse vs)) type.params ty) (omega (arith, le)) refl
         (λ k. weaken M' (rw (k.target, c, ty) at (seq M' pre (one_step M' T _ st_))) (omega arith) (omega arith))
@@ -409,7 +414,7 @@ module _ (M M' : Engine) (E : ℕ) (gl : List ValType) (W : Wrap) (S : Stands M 
     direct_fits (imported i type) at_ = tt
     direct_fits (defined b tree type) at_ = S.undirect g' b tree type at_
 
-    cut_call : (fn : Function) (u : Cut) → function_at M.program g' ≡ Some fn → cut (length (function_type fn).params) ops ≡ u → FitsIn C (result_of (function_type fn)) (less (length (function_type fn).params) esd) × Room C (grown (result_of (function_type fn)) (less (length (function_type fn).params) esd)) rest → After M M' E gl W (st XD (l ++ ex) ops (call (mapped M.program.module_ g') (after_direct (nat_lt g' (import_count M.program.module_)) C lsd (result_of (function_type fn)) (less (length (function_type fn).params) esd) at (λ es'. rewrite C lsd es' rest))) (flagged M g (values.I32 0)) co) (calls_on M fn g' u at rest FD LD Ls Fs g co)
+    cut_call : (fn : Function) (u : Cut) → function_at M.program g' ≡ Some fn → cut (length (function_type fn).params) ops ≡ u → FitsIn C (result_of (function_type fn)) (less (length (function_type fn).params) esd) × Room C (grown (result_of (function_type fn)) (less (length (function_type fn).params) esd)) rest → Comes M M' E gl W (st XD (l ++ ex) ops (call (mapped M.program.module_ g') (after_direct (nat_lt g' (import_count M.program.module_)) C lsd (result_of (function_type fn)) (less (length (function_type fn).params) esd) at (λ es'. rewrite C lsd es' rest))) (flagged M g (values.I32 0)) co) (calls_on M fn g' u at rest FD LD Ls Fs g co)
     cut_call fn short at_ c rm = tt
     cut_call fn (parts vs below) at_ c rm =
         let h = f.labels in
@@ -428,14 +433,14 @@ module _ (M M' : Engine) (E : ℕ) (gl : List ValType) (W : Wrap) (S : Stands M 
     abbrev code_with : FuncType → Module → Nodes
     code_with type m = call (mapped m g') (after_direct (nat_lt g' (import_count m)) C lsd (result_of type) (less (length type.params) esd) at (λ es'. rewrite C lsd es' rest))
 
-    pub call_node : (q : Option Function) → function_at M.program g' ≡ q → After M M' E gl W (tgt M W C ex e ss ws r l ops kd Ls Fs g co (jump at (Call g') rest)) (calls M q g' ops at rest FD LD Ls Fs g co)
+    pub call_node : (q : Option Function) → function_at M.program g' ≡ q → Comes M M' E gl W (tgt M W C ex e ss ws r l ops kd Ls Fs g co (jump at (Call g') rest)) (calls M q g' ops at rest FD LD Ls Fs g co)
     call_node None at_ = tt
     call_node (Some fn) at_ =
         let same : type_at C.source g' ≡ Some (function_type fn) = ap (λ z. type_at z g') f.funcs ∙ S.type_is g' fn at_ in
         let go = λ (es' : List Place). rewrite C lsd es' rest in
         let rm = subst (λ z. Room_call C z esd (λ es'. Room C es' rest)) same f.labels.2.1 in
-        subst (λ z. After M M' E gl W (st XD (l ++ ex) ops (call_code C lsd esd at g' z go) (flagged M g (values.I32 0)) co) (calls M (Some fn) g' ops at rest FD LD Ls Fs g co)) (sym same)
-        (subst (λ m. After M M' E gl W (st XD (l ++ ex) ops (code_with (function_type fn) m) (flagged M g (values.I32 0)) co) (calls M (Some fn) g' ops at rest FD LD Ls Fs g co)) (sym f.funcs)
+        subst (λ z. Comes M M' E gl W (st XD (l ++ ex) ops (call_code C lsd esd at g' z go) (flagged M g (values.I32 0)) co) (calls M (Some fn) g' ops at rest FD LD Ls Fs g co)) (sym same)
+        (subst (λ m. Comes M M' E gl W (st XD (l ++ ex) ops (code_with (function_type fn) m) (flagged M g (values.I32 0)) co) (calls M (Some fn) g' ops at rest FD LD Ls Fs g co)) (sym f.funcs)
         (cut_call fn (cut (length (function_type fn).params) ops) at_ refl rm))
 
 pub same_functype-same : (a b : FuncType) → same_functype a b ≡ true → a ≡ b
@@ -585,7 +590,7 @@ module _ (M M' : Engine) (E : ℕ) (gl : List ValType) (W : Wrap) (S : Stands M 
     kind_stays lbl j (inr (inr (inl x))) = rw x.1 (refl, refl)
     kind_stays lbl j (inr (inr (inr x))) = rw x.1 (refl, refl)
 
-    pub entry_trap : (type : FuncType) (q : Option (Option ℕ)) (lbl j : ℕ) → Has t C.helpers → slice_get (first_table M.program.module_) n ≡ q → unwrap_or (option_map (entry_label M.program.module_ t) q) 1 ≡ lbl → Label_kind lbl (suc j) → After M M' E gl W (st XI (l ++ ex) all_i (guarded_call type) gi co) (traps (suc j) (config (FI ∷ Fs) g co))
+    pub entry_trap : (type : FuncType) (q : Option (Option ℕ)) (lbl j : ℕ) → Has t C.helpers → slice_get (first_table M.program.module_) n ≡ q → unwrap_or (option_map (entry_label M.program.module_ t) q) 1 ≡ lbl → Label_kind lbl (suc j) → Comes M M' E gl W (st XI (l ++ ex) all_i (guarded_call type) gi co) (traps (suc j) (config (FI ∷ Fs) g co))
     entry_trap type q lbl j has tq le lk =
         let h = f.labels in
         let v = values.I32 (suc j) in
@@ -616,7 +621,7 @@ module _ (M M' : Engine) (E : ℕ) (gl : List ValType) (W : Wrap) (S : Stands M 
     RoomI type = FitsIn C (result_of type) (less (length type.params) esi) × Room C (grown (result_of type) (less (length type.params) esi)) rest
 
     -- the function of an entry is called
-    pub entry_call : (type : FuncType) (g' : ℕ) (fn : Function) (u : Cut) → Has t C.helpers → RoomI type → slice_get M.program.module_.types t ≡ Some type → slice_get g.table n ≡ Some (Some g') → function_at M.program g' ≡ Some fn → function_type fn ≡ type → unwrap_or (option_map (entry_label M.program.module_ t) (Some (Some g'))) 1 ≡ 0 → cut (length (function_type fn).params) ops ≡ u → After M M' E gl W (st XI (l ++ ex) all_i (guarded_call type) gi co) (calls_on M fn g' u at rest FI LI Ls Fs g co)
+    pub entry_call : (type : FuncType) (g' : ℕ) (fn : Function) (u : Cut) → Has t C.helpers → RoomI type → slice_get M.program.module_.types t ≡ Some type → slice_get g.table n ≡ Some (Some g') → function_at M.program g' ≡ Some fn → function_type fn ≡ type → unwrap_or (option_map (entry_label M.program.module_ t) (Some (Some g'))) 1 ≡ 0 → cut (length (function_type fn).params) ops ≡ u → Comes M M' E gl W (st XI (l ++ ex) all_i (guarded_call type) gi co) (calls_on M fn g' u at rest FI LI Ls Fs g co)
     entry_call type g' fn short has rm ty tq at_ same le c = tt
     entry_call type g' fn (parts vs below) has rm ty tq at_ same le c =
         let h = f.labels in

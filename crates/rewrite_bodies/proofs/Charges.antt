@@ -12,7 +12,7 @@ use Rattle.wasm_syntax.specs.Machine.{result_of, same_result}
 use Rattle.wasm_syntax.proofs.Types.{same_type_refl}
 use Rattle.rewrite_bodies.specs.Numbering.{import_count}
 use Rattle.rewrite_bodies.specs.calls.Slots.{Place, Spilled, Known, Copied, Landing, Ctx, less, grown, under, after_plain, behind_call, behind_jump}
-use Rattle.rewrite_bodies.specs.calls.Landings.{same_value, same_place, same_places, same_landing, number_of, number_in, carrying, landing_of, landing_behind, most_landings, at_end, unless_there, with_landing, with_some, landing_call, landings_call, landings_jump, landings_from}
+use Rattle.rewrite_bodies.specs.calls.Landings.{same_value, same_place, same_places, same_landing, number_of, number_in, carrying, landing_behind, most_landings, at_end, unless_there, with_landing, with_some, landing_call, landings_call, landings_jump, landings_from, landing_at}
 
 abbrev pub cost : Landing → ℕ
 cost x = 35 + 16 * length x.places
@@ -27,8 +27,11 @@ charge None o = 0
 charge (Some n) None = 0
 charge (Some n) (Some x) = cost x
 
-abbrev pub charge_at : Ctx → Basic → List Place → ℕ
-charge_at C i es = charge (number_in C.landings (landing_of i es)) (landing_of i es)
+abbrev pub charge_of : Ctx → Option Landing → ℕ
+charge_of C o = charge (number_in C.landings o) o
+
+abbrev pub charge_at : Ctx → ℕ → Basic → List Place → ℕ
+charge_at C o i es = charge_of C (landing_at C o i es)
 
 abbrev pub charge_behind : Ctx → List Place → ℕ
 charge_behind C left = charge (number_of (landing_behind left) C.landings) (Some (landing_behind left))
@@ -50,7 +53,7 @@ charge_jump C (CallIndirect t) es = 0
 -- to the live instructions of nodes
 abbrev pub charged : Ctx → List Place → Nodes → ℕ
 charged C es stop = 0
-charged C es (basic o i rest) = charge_at C i es + charged C (after_plain C es i) rest
+charged C es (basic o i rest) = charge_at C o i es + charged C (after_plain C es i) rest
 charged C es (jump o j rest) = charge_jump C j es + behind_jump C j es (λ es'. charged C es' rest)
 charged C es (block o t inner end rest) = charged C (under es) inner + charged C (grown t (under es)) rest
 charged C es (loop o t inner end rest) = charged C (under es) inner + charged C (grown t (under es)) rest
@@ -142,7 +145,7 @@ module _ (C : Ctx) where
 
   grows : (es : List Place) (nodes : Nodes) (xs : List Landing) → Within xs (landings_from C es nodes xs)
   grows es stop xs y f = f
-  grows es (basic o i rest) xs y f = grows (after_plain C es i) rest (with_some (landing_of i es) xs) y (grows_some (landing_of i es) xs y f)
+  grows es (basic o i rest) xs y f = grows (after_plain C es i) rest (with_some (landing_at C o i es) xs) y (grows_some (landing_at C o i es) xs y f)
   grows es (jump o j rest) xs y f = grows_jump j es xs (λ es' xs'. landings_from C es' rest xs') (λ es' xs' y' f'. grows es' rest xs' y' f') y f
   grows es (block o t inner end rest) xs y f = grows (grown t (under es)) rest (landings_from C (under es) inner xs) y (grows (under es) inner xs y f)
   grows es (loop o t inner end rest) xs y f = grows (grown t (under es)) rest (landings_from C (under es) inner xs) y (grows (under es) inner xs y f)
@@ -208,9 +211,9 @@ module _ (C : Ctx) where
   paid : (es : List Place) (nodes : Nodes) (xs : List Landing) → Within (landings_from C es nodes xs) C.landings → costs_of (landings_from C es nodes xs) ≤ costs_of xs + charged C es nodes
   paid es stop xs w = omega arith
   paid es (basic o i rest) xs w =
-      let xs1 = with_some (landing_of i es) xs in
+      let xs1 = with_some (landing_at C o i es) xs in
       let a = paid (after_plain C es i) rest xs1 w in
-      let b = paid_some (landing_of i es) xs (λ y f. w y (grows (after_plain C es i) rest xs1 y f)) in
+      let b = paid_some (landing_at C o i es) xs (λ y f. w y (grows (after_plain C es i) rest xs1 y f)) in
       omega (arith, a, b)
   paid es (jump o j rest) xs w = paid_jump j es xs (λ es' xs'. landings_from C es' rest xs') (λ es'. charged C es' rest) (λ es' xs' y f. grows es' rest xs' y f) (λ es' xs' w'. paid es' rest xs' w') w
   paid es (block o t inner end rest) xs w =

@@ -25,9 +25,9 @@ use Rattle.rewrite_bodies.proofs.Run.{stored, stored_other, kind_no_slot, if_sam
 use Rattle.rewrite_bodies.proofs.Parts.{settle, step_plain}
 use Rattle.rewrite_bodies.proofs.Copies.{fixed_without, fixed_spill, labels_fixed, fits_any}
 use Rattle.wasm_laws.proofs.Progress.{same_of}
-use Rattle.rewrite_bodies.specs.calls.Standing.{After}
 use Rattle.rewrite_bodies.proofs.Sim.{refit, room_height, grown-append, grown_fits, len_of, shell, tgt, wit, wit_under, armed, if_zero_to}
 use Rattle.wasm_syntax.proofs.Types.{same_type_is}
+use Rattle.rewrite_bodies.specs.inner.Promises.{Comes}
 
 pub flag_len : (C : Ctx) (g : World) → types g.globals ≡ global_types C.source → flag_of C.source ≡ length g.globals
 flag_len C g e = sym (length-map C.source.globals (λ g. g.vtype)) ∙ len_of g.globals (global_types C.source) e
@@ -93,7 +93,7 @@ module _ (M M' : Engine) (E : ℕ) (gl : List ValType) (W : Wrap) where
       seq M' s1 (seq M' s2 s3)
 
   -- values come back to a frame
-  returned_in : (vs : List Value) (Fs : List Frame) (ws : List Wit) (g : World) (co : List CollectorCall) (t : Config) (r : Option ValType) (C : Ctx) (ex : List Value) (i cl : ℕ) (r' : Option ValType) (l : List Value) (Ls : List Label) (ss : List (List Place)) → FitsFrame M E gl r (frame i r' cl l Ls) (wit C ex ss) → FitsFrames M E gl W.result r' Fs ws → WorldFits M gl g → exactly r vs ≡ Some vs → Gets M' 1 10 t (deliver M' vs (t_frames W r (frame i r' cl l Ls ∷ Fs) (wit C ex ss ∷ ws)) (flagged M g (values.I32 0)) co) → After M M' E gl W t (deliver M vs (frame i r' cl l Ls ∷ Fs) g co)
+  returned_in : (vs : List Value) (Fs : List Frame) (ws : List Wit) (g : World) (co : List CollectorCall) (t : Config) (r : Option ValType) (C : Ctx) (ex : List Value) (i cl : ℕ) (r' : Option ValType) (l : List Value) (Ls : List Label) (ss : List (List Place)) → FitsFrame M E gl r (frame i r' cl l Ls) (wit C ex ss) → FitsFrames M E gl W.result r' Fs ws → WorldFits M gl g → exactly r vs ≡ Some vs → Gets M' 1 10 t (deliver M' vs (t_frames W r (frame i r' cl l Ls ∷ Fs) (wit C ex ss ∷ ws)) (flagged M g (values.I32 0)) co) → Comes M M' E gl W t (deliver M vs (frame i r' cl l Ls ∷ Fs) g co)
   returned_in vs Fs ws g co t r C ex i cl r' l [] ss f fs gl_ x go = tt
   returned_in vs Fs ws g co t r C ex i cl r' l (L ∷ Ls) [] f fs gl_ x go = absurd f.labels
   returned_in vs Fs ws g co t r C ex i cl r' l (L ∷ Ls) (e ∷ ss) f fs gl_ x go =
@@ -121,7 +121,7 @@ module _ (M M' : Engine) (E : ℕ) (gl : List ValType) (W : Wrap) where
       )
 
   -- or to one that called through the table
-  returned_arm : (vs : List Value) (Fs : List Frame) (ws : List Wit) (g : World) (co : List CollectorCall) (t : Config) (r : Option ValType) (C : Ctx) (ex : List Value) (others : UnderWay) (i cl : ℕ) (r' : Option ValType) (l : List Value) (Ls : List Label) (ss : List (List Place)) → FitsFrame M E gl r (frame i r' cl l Ls) (wit_under C ex ss (Some others)) → FitsFrames M E gl W.result r' Fs ws → WorldFits M gl g → exactly r vs ≡ Some vs → Gets M' 1 10 t (deliver M' vs (t_frames W r (frame i r' cl l Ls ∷ Fs) (wit_under C ex ss (Some others) ∷ ws)) (flagged M g (values.I32 0)) co) → After M M' E gl W t (deliver M vs (frame i r' cl l Ls ∷ Fs) g co)
+  returned_arm : (vs : List Value) (Fs : List Frame) (ws : List Wit) (g : World) (co : List CollectorCall) (t : Config) (r : Option ValType) (C : Ctx) (ex : List Value) (others : UnderWay) (i cl : ℕ) (r' : Option ValType) (l : List Value) (Ls : List Label) (ss : List (List Place)) → FitsFrame M E gl r (frame i r' cl l Ls) (wit_under C ex ss (Some others)) → FitsFrames M E gl W.result r' Fs ws → WorldFits M gl g → exactly r vs ≡ Some vs → Gets M' 1 10 t (deliver M' vs (t_frames W r (frame i r' cl l Ls ∷ Fs) (wit_under C ex ss (Some others) ∷ ws)) (flagged M g (values.I32 0)) co) → Comes M M' E gl W t (deliver M vs (frame i r' cl l Ls ∷ Fs) g co)
   unfolding int_binary
   returned_arm vs Fs ws g co t r C ex others i cl r' l [] ss f fs gl_ x go = tt
   returned_arm vs Fs ws g co t r C ex others i cl r' l (L ∷ Ls) [] f fs gl_ x go = absurd f.labels
@@ -152,11 +152,11 @@ module _ (M M' : Engine) (E : ℕ) (gl : List ValType) (W : Wrap) where
         weaken M' (seq M' go1 (seq M' s1 (seq M' s2 (seq M' s3 (seq M' (if_zero_to M') (seq M' s4 s5)))))) (omega arith) (omega (arith, f.small, f.no_kind.1)),
       )
 
-  returned_under : (vs : List Value) (Fs : List Frame) (ws : List Wit) (g : World) (co : List CollectorCall) (t : Config) (r : Option ValType) (F : Frame) (C : Ctx) (ex : List Value) (ss : List (List Place)) (others : Option UnderWay) → FitsFrame M E gl r F (wit_under C ex ss others) → FitsFrames M E gl W.result F.result Fs ws → WorldFits M gl g → exactly r vs ≡ Some vs → Gets M' 1 10 t (deliver M' vs (t_frames W r (F ∷ Fs) (wit_under C ex ss others ∷ ws)) (flagged M g (values.I32 0)) co) → After M M' E gl W t (deliver M vs (F ∷ Fs) g co)
+  returned_under : (vs : List Value) (Fs : List Frame) (ws : List Wit) (g : World) (co : List CollectorCall) (t : Config) (r : Option ValType) (F : Frame) (C : Ctx) (ex : List Value) (ss : List (List Place)) (others : Option UnderWay) → FitsFrame M E gl r F (wit_under C ex ss others) → FitsFrames M E gl W.result F.result Fs ws → WorldFits M gl g → exactly r vs ≡ Some vs → Gets M' 1 10 t (deliver M' vs (t_frames W r (F ∷ Fs) (wit_under C ex ss others ∷ ws)) (flagged M g (values.I32 0)) co) → Comes M M' E gl W t (deliver M vs (F ∷ Fs) g co)
   returned_under vs Fs ws g co t r F C ex ss None f fs gl_ x go = returned_in vs Fs ws g co t r C ex F.function F.call F.result F.locals F.labels ss f fs gl_ x go
   returned_under vs Fs ws g co t r F C ex ss (Some others) f fs gl_ x go = returned_arm vs Fs ws g co t r C ex others F.function F.call F.result F.locals F.labels ss f fs gl_ x go
 
-  returned : (vs : List Value) (Fs : List Frame) (ws : List Wit) (g : World) (co : List CollectorCall) (t : Config) (r : Option ValType) → 10 ≤ E → FitsFrames M E gl W.result r Fs ws → WorldFits M gl g → exactly r vs ≡ Some vs → Gets M' 1 10 t (deliver M' vs (t_frames W r Fs ws) (flagged M g (values.I32 0)) co) → After M M' E gl W t (deliver M vs Fs g co)
+  returned : (vs : List Value) (Fs : List Frame) (ws : List Wit) (g : World) (co : List CollectorCall) (t : Config) (r : Option ValType) → 10 ≤ E → FitsFrames M E gl W.result r Fs ws → WorldFits M gl g → exactly r vs ≡ Some vs → Gets M' 1 10 t (deliver M' vs (t_frames W r Fs ws) (flagged M g (values.I32 0)) co) → Comes M M' E gl W t (deliver M vs Fs g co)
   returned vs [] [] g co t r le fs gl_ x go = (subst (λ z. exactly z vs ≡ Some vs) fs x, gl_, weaken M' go (omega arith) le)
   returned vs [] (_ ∷ _) g co t r le fs gl_ x go = absurd fs
   returned vs (F ∷ Fs) [] g co t r le fs gl_ x go = absurd fs
@@ -169,7 +169,7 @@ module _ (M M' : Engine) (E : ℕ) (gl : List ValType) (W : Wrap) where
 
   module _ (C : Ctx) (ex : List Value) (ws : List Wit) (i cl : ℕ) (r : Option ValType) (l : List Value) (Fs : List Frame) (g : World) (co : List CollectorCall) (t : Config) (Ls0 : List Label) (ss0 : List (List Place)) (Lx : List Label) (f : FitsFrame M E gl None (frame i r cl l Ls0) (wit C ex ss0)) (fs : FitsFrames M E gl W.result r Fs ws) (gl_ : WorldFits M gl g) where
     -- values come to a label whose block has ended or was left by a branch
-    arrived_in : (a : Option ValType) (vs : List Value) (Ls : List Label) (ss : List (List Place)) → FitsLabels C [] ex a Ls ss → exactly a vs ≡ Some vs → Moved C ex r l Fs ws g co t Lx (arrive vs (t_labels C (Arrives a) Ls ss)) → After M M' E gl W t (moved M (arrive vs Ls) (frame i r cl l Ls0) Fs g co)
+    arrived_in : (a : Option ValType) (vs : List Value) (Ls : List Label) (ss : List (List Place)) → FitsLabels C [] ex a Ls ss → exactly a vs ≡ Some vs → Moved C ex r l Fs ws g co t Lx (arrive vs (t_labels C (Arrives a) Ls ss)) → Comes M M' E gl W t (moved M (arrive vs Ls) (frame i r cl l Ls0) Fs g co)
     arrived_in a vs [] ss h x go = tt
     arrived_in a vs (L ∷ Ls) [] h x go = absurd h
     arrived_in a vs (L ∷ Ls) (e ∷ ss) h x go =
@@ -188,11 +188,11 @@ module _ (M M' : Engine) (E : ℕ) (gl : List ValType) (W : Wrap) where
         )
 
     -- the frame gives its values back
-    handed : (vs : List Value) → exactly C.result vs ≡ Some vs → Gets M' 1 3 t (deliver M' vs (t_frames W r Fs ws) (flagged M g (values.I32 0)) co) → After M M' E gl W t (deliver M vs Fs g co)
+    handed : (vs : List Value) → exactly C.result vs ≡ Some vs → Gets M' 1 3 t (deliver M' vs (t_frames W r Fs ws) (flagged M g (values.I32 0)) co) → Comes M M' E gl W t (deliver M vs Fs g co)
     handed vs x go = returned vs Fs ws g co t r (omega (arith, f.small)) fs gl_ (subst (λ z. exactly z vs ≡ Some vs) f.result x) (weaken M' go (omega arith) (omega arith))
 
     -- by way of the body's block
-    gone : (b : Option ValType) (vs : List Value) → b ≡ C.result → exactly b vs ≡ Some vs → Moved C ex r l Fs ws g co t Lx (arrive vs (t_labels C now [] [])) → After M M' E gl W t (deliver M vs Fs g co)
+    gone : (b : Option ValType) (vs : List Value) → b ≡ C.result → exactly b vs ≡ Some vs → Moved C ex r l Fs ws g co t Lx (arrive vs (t_labels C now [] [])) → Comes M M' E gl W t (deliver M vs Fs g co)
     gone b vs be x go =
         let x' : exactly C.result vs ≡ Some vs = subst (λ z. exactly z vs ≡ Some vs) be x in
         let X2 : Shell = record { idx = mapped C.source C.index; result = C.result; kind = first_kind C.landings; below = l_below C C.landings; frames = t_frames W r Fs ws } in
@@ -201,7 +201,7 @@ module _ (M M' : Engine) (E : ℕ) (gl : List ValType) (W : Wrap) where
         handed vs x' (weaken M' (seq M' s1 s2) (omega arith) (omega arith))
 
     -- a loop is met again
-    looped : (o : ℕ) (a : Option ValType) (inner : Nodes) (ee : ℕ) (Ls : List Label) (ss : List (List Place)) → KindFits C (joined ss) (again o a inner ee) Ls → FitsLabels C [] ex a Ls ss → Moved C ex r l Fs ws g co t Lx (loops 0 a (rewrite C (suc (length Ls)) (joined ss) inner) 0 (t_labels C (Arrives a) Ls ss)) → After M M' E gl W t (moved M (loops o a inner ee Ls) (frame i r cl l Ls0) Fs g co)
+    looped : (o : ℕ) (a : Option ValType) (inner : Nodes) (ee : ℕ) (Ls : List Label) (ss : List (List Place)) → KindFits C (joined ss) (again o a inner ee) Ls → FitsLabels C [] ex a Ls ss → Moved C ex r l Fs ws g co t Lx (loops 0 a (rewrite C (suc (length Ls)) (joined ss) inner) 0 (t_labels C (Arrives a) Ls ss)) → Comes M M' E gl W t (moved M (loops o a inner ee Ls) (frame i r cl l Ls0) Fs g co)
     looped o a inner ee [] ss kf h go = tt
     looped o a inner ee (L ∷ Ls) [] kf h go = absurd h
     looped o a inner ee (L ∷ Ls) (e ∷ ss) kf h go =
@@ -217,21 +217,21 @@ module _ (M M' : Engine) (E : ℕ) (gl : List ValType) (W : Wrap) where
           subst (λ z. To M' 1 E t (st X (l ++ ex) L.operands z (flagged M g (values.I32 0)) co)) (sym conv) (weaken M' go (omega arith) (omega (arith, f.small))),
         )
 
-    by_top : (a : Option ValType) (ops : List Value) (q : Option (List Value)) (Ls : List Label) (ss : List (List Place)) → top a ops ≡ q → FitsLabels C [] ex a Ls ss → Moved C ex r l Fs ws g co t Lx (arrive_some q (t_labels C (Arrives a) Ls ss)) → After M M' E gl W t (moved M (arrive_some q Ls) (frame i r cl l Ls0) Fs g co)
+    by_top : (a : Option ValType) (ops : List Value) (q : Option (List Value)) (Ls : List Label) (ss : List (List Place)) → top a ops ≡ q → FitsLabels C [] ex a Ls ss → Moved C ex r l Fs ws g co t Lx (arrive_some q (t_labels C (Arrives a) Ls ss)) → Comes M M' E gl W t (moved M (arrive_some q Ls) (frame i r cl l Ls0) Fs g co)
     by_top a ops None Ls ss x h go = tt
     by_top a ops (Some vs) Ls ss x h go = arrived_in a vs Ls ss h (top_exact a ops vs x) go
 
-    out_by_top : (b : Option ValType) (ops : List Value) (q : Option (List Value)) → top b ops ≡ q → b ≡ C.result → Moved C ex r l Fs ws g co t Lx (arrive_some q (t_labels C now [] [])) → After M M' E gl W t (moved M (out_some q) (frame i r cl l Ls0) Fs g co)
+    out_by_top : (b : Option ValType) (ops : List Value) (q : Option (List Value)) → top b ops ≡ q → b ≡ C.result → Moved C ex r l Fs ws g co t Lx (arrive_some q (t_labels C now [] [])) → Comes M M' E gl W t (moved M (out_some q) (frame i r cl l Ls0) Fs g co)
     out_by_top b ops None x be go = tt
     out_by_top b ops (Some vs) x be go = gone b vs be (top_exact b ops vs x) go
 
-    br_land : (ops : List Value) (kd : Kind) (Ls : List Label) (ss : List (List Place)) → KindFits C (joined ss) kd Ls → FitsLabels C [] ex (awaits (pending kd)) Ls ss → Moved C ex r l Fs ws g co t Lx (land (t_kind C (length Ls) (joined ss) kd) ops (t_labels C (pending kd) Ls ss)) → After M M' E gl W t (moved M (land kd ops Ls) (frame i r cl l Ls0) Fs g co)
+    br_land : (ops : List Value) (kd : Kind) (Ls : List Label) (ss : List (List Place)) → KindFits C (joined ss) kd Ls → FitsLabels C [] ex (awaits (pending kd)) Ls ss → Moved C ex r l Fs ws g co t Lx (land (t_kind C (length Ls) (joined ss) kd) ops (t_labels C (pending kd) Ls ss)) → Comes M M' E gl W t (moved M (land kd ops Ls) (frame i r cl l Ls0) Fs g co)
     br_land ops (leaves a) Ls ss kf h go = by_top a ops (top a ops) Ls ss refl h go
     br_land ops (again o a inner ee) Ls ss kf h go = looped o a inner ee Ls ss kf h go
     br_land ops (returns b) [] ss kf h go = out_by_top b ops (top b ops) refl kf go
     br_land ops (returns b) (L ∷ Ls) ss kf h go = absurd kf
 
-    br_outer : (ops : List Value) (n : ℕ) (a : Option ValType) (p : Pending) (Ls : List Label) (ss : List (List Place)) → FitsLabels C [] ex a Ls ss → Moved C ex r l Fs ws g co t Lx (branch n ops (t_labels C p Ls ss)) → After M M' E gl W t (moved M (branch n ops Ls) (frame i r cl l Ls0) Fs g co)
+    br_outer : (ops : List Value) (n : ℕ) (a : Option ValType) (p : Pending) (Ls : List Label) (ss : List (List Place)) → FitsLabels C [] ex a Ls ss → Moved C ex r l Fs ws g co t Lx (branch n ops (t_labels C p Ls ss)) → Comes M M' E gl W t (moved M (branch n ops Ls) (frame i r cl l Ls0) Fs g co)
     br_outer ops zero a p [] ss h go = tt
     br_outer ops (suc n) a p [] ss h go = tt
     br_outer ops zero a p (L ∷ Ls) [] h go = absurd h
@@ -240,26 +240,26 @@ module _ (M M' : Engine) (E : ℕ) (gl : List ValType) (W : Wrap) where
     br_outer ops (suc n) a p (L ∷ Ls) (e ∷ ss) h go = br_outer ops n (awaits (pending L.kind)) (pending L.kind) Ls ss h.4 go
 
     -- a branch from the innermost label, whatever its operands and its code
-    pub br_sim : (ops o : List Value) (c : Nodes) (n : ℕ) (L : Label) (Ls : List Label) (e : List Place) (ss : List (List Place)) → FitsLabels C l ex None (L ∷ Ls) (e ∷ ss) → Moved C ex r l Fs ws g co t Lx (branch n ops (label o c 0 (t_kind C (length Ls) (joined ss) L.kind) ∷ t_labels C (pending L.kind) Ls ss)) → After M M' E gl W t (moved M (branch n ops (L ∷ Ls)) (frame i r cl l Ls0) Fs g co)
+    pub br_sim : (ops o : List Value) (c : Nodes) (n : ℕ) (L : Label) (Ls : List Label) (e : List Place) (ss : List (List Place)) → FitsLabels C l ex None (L ∷ Ls) (e ∷ ss) → Moved C ex r l Fs ws g co t Lx (branch n ops (label o c 0 (t_kind C (length Ls) (joined ss) L.kind) ∷ t_labels C (pending L.kind) Ls ss)) → Comes M M' E gl W t (moved M (branch n ops (L ∷ Ls)) (frame i r cl l Ls0) Fs g co)
     br_sim ops o c zero L Ls e ss h go = br_land ops L.kind Ls ss h.3 h.4 go
     br_sim ops o c (suc n) L Ls e ss h go = br_outer ops n (awaits (pending L.kind)) (pending L.kind) Ls ss h.4 go
 
     -- the end of a label's nodes
-    by_all : (a : Option ValType) (ops : List Value) (q : Option (List Value)) (Ls : List Label) (ss : List (List Place)) → exactly a ops ≡ q → FitsLabels C [] ex a Ls ss → Moved C ex r l Fs ws g co t Lx (arrive_some q (t_labels C (Arrives a) Ls ss)) → After M M' E gl W t (moved M (arrive_some q Ls) (frame i r cl l Ls0) Fs g co)
+    by_all : (a : Option ValType) (ops : List Value) (q : Option (List Value)) (Ls : List Label) (ss : List (List Place)) → exactly a ops ≡ q → FitsLabels C [] ex a Ls ss → Moved C ex r l Fs ws g co t Lx (arrive_some q (t_labels C (Arrives a) Ls ss)) → Comes M M' E gl W t (moved M (arrive_some q Ls) (frame i r cl l Ls0) Fs g co)
     by_all a ops None Ls ss x h go = tt
     by_all a ops (Some vs) Ls ss x h go = arrived_in a vs Ls ss h (exactly_exact a ops vs x) go
 
-    out_by_all : (b : Option ValType) (ops : List Value) (q : Option (List Value)) → exactly b ops ≡ q → b ≡ C.result → Moved C ex r l Fs ws g co t Lx (arrive_some q (t_labels C now [] [])) → After M M' E gl W t (moved M (out_some q) (frame i r cl l Ls0) Fs g co)
+    out_by_all : (b : Option ValType) (ops : List Value) (q : Option (List Value)) → exactly b ops ≡ q → b ≡ C.result → Moved C ex r l Fs ws g co t Lx (arrive_some q (t_labels C now [] [])) → Comes M M' E gl W t (moved M (out_some q) (frame i r cl l Ls0) Fs g co)
     out_by_all b ops None x be go = tt
     out_by_all b ops (Some vs) x be go = gone b vs be (exactly_exact b ops vs x) go
 
-    left : (ops : List Value) (kd : Kind) (Ls : List Label) (ss : List (List Place)) → KindFits C (joined ss) kd Ls → FitsLabels C [] ex (awaits (pending kd)) Ls ss → Moved C ex r l Fs ws g co t Lx (leave (t_kind C (length Ls) (joined ss) kd) ops (t_labels C (pending kd) Ls ss)) → After M M' E gl W t (moved M (leave kd ops Ls) (frame i r cl l Ls0) Fs g co)
+    left : (ops : List Value) (kd : Kind) (Ls : List Label) (ss : List (List Place)) → KindFits C (joined ss) kd Ls → FitsLabels C [] ex (awaits (pending kd)) Ls ss → Moved C ex r l Fs ws g co t Lx (leave (t_kind C (length Ls) (joined ss) kd) ops (t_labels C (pending kd) Ls ss)) → Comes M M' E gl W t (moved M (leave kd ops Ls) (frame i r cl l Ls0) Fs g co)
     left ops (leaves a) Ls ss kf h go = by_all a ops (exactly a ops) Ls ss refl h go
     left ops (again o a inner ee) Ls ss kf h go = by_all a ops (exactly a ops) Ls ss refl h go
     left ops (returns b) [] ss kf h go = out_by_all b ops (exactly b ops) refl kf go
     left ops (returns b) (L ∷ Ls) ss kf h go = absurd kf
 
-    returned_by : (ops : List Value) (q : Option (List Value)) → top C.result ops ≡ q → Moved C ex r l Fs ws g co t Lx (out_some q) → After M M' E gl W t (moved M (out_some q) (frame i r cl l Ls0) Fs g co)
+    returned_by : (ops : List Value) (q : Option (List Value)) → top C.result ops ≡ q → Moved C ex r l Fs ws g co t Lx (out_some q) → Comes M M' E gl W t (moved M (out_some q) (frame i r cl l Ls0) Fs g co)
     returned_by ops None x go = tt
     returned_by ops (Some vs) x go = handed vs (top_exact C.result ops vs x) (weaken M' go (omega arith) (omega arith))
 
@@ -277,23 +277,23 @@ module _ (M M' : Engine) (E : ℕ) (gl : List ValType) (W : Wrap) where
     abbrev own : Nodes → List Label
     own nodes = label ops nodes en kd ∷ Ls
 
-    pub end_sim : Fits stop → FitsFrames M E gl W.result r Fs ws → WorldFits M gl g → After M M' E gl W (at stop) (moved M (leave kd ops Ls) (frame i r cl l (own stop)) Fs g co)
+    pub end_sim : Fits stop → FitsFrames M E gl W.result r Fs ws → WorldFits M gl g → Comes M M' E gl W (at stop) (moved M (leave kd ops Ls) (frame i r cl l (own stop)) Fs g co)
     end_sim f fs gl_ =
         left C ex ws i cl r l Fs g co (at stop) (own stop) (e ∷ ss) (labels_at stop) f fs gl_ ops kd Ls ss f.labels.3 f.labels.4 (weaken M' (one_step M' _ _ refl) (omega arith) (omega arith))
 
-    pub br_node : (o n : ℕ) (rest : Nodes) → Fits (jump o (Br n) rest) → FitsFrames M E gl W.result r Fs ws → WorldFits M gl g → After M M' E gl W (at (jump o (Br n) rest)) (moved M (branch n ops (own (jump o (Br n) rest))) (frame i r cl l (own (jump o (Br n) rest))) Fs g co)
+    pub br_node : (o n : ℕ) (rest : Nodes) → Fits (jump o (Br n) rest) → FitsFrames M E gl W.result r Fs ws → WorldFits M gl g → Comes M M' E gl W (at (jump o (Br n) rest)) (moved M (branch n ops (own (jump o (Br n) rest))) (frame i r cl l (own (jump o (Br n) rest))) Fs g co)
     br_node o n rest f fs gl_ =
         let nodes = jump o (Br n) rest in
         let code = jump 0 (Br n) stop in
         br_sim C ex ws i cl r l Fs g co (at nodes) (own nodes) (e ∷ ss) (labels_at code) f fs gl_ ops ops code n (label ops nodes en kd) Ls e ss f.labels (weaken M' (one_step M' _ _ refl) (omega arith) (omega arith))
 
-    pub return_node : (o : ℕ) (rest : Nodes) → Fits (jump o Return rest) → FitsFrames M E gl W.result r Fs ws → WorldFits M gl g → After M M' E gl W (at (jump o Return rest)) (moved M (out_some (top r ops)) (frame i r cl l (own (jump o Return rest))) Fs g co)
+    pub return_node : (o : ℕ) (rest : Nodes) → Fits (jump o Return rest) → FitsFrames M E gl W.result r Fs ws → WorldFits M gl g → Comes M M' E gl W (at (jump o Return rest)) (moved M (out_some (top r ops)) (frame i r cl l (own (jump o Return rest))) Fs g co)
     return_node o rest f fs gl_ =
         let nodes = jump o Return rest in
-        subst (λ z. After M M' E gl W (at nodes) (moved M (out_some (top z ops)) (frame i r cl l (own nodes)) Fs g co)) f.result
+        subst (λ z. Comes M M' E gl W (at nodes) (moved M (out_some (top z ops)) (frame i r cl l (own nodes)) Fs g co)) f.result
         (returned_by C ex ws i cl r l Fs g co (at nodes) (own nodes) (e ∷ ss) (labels_at (jump 0 Return stop)) f fs gl_ ops (top C.result ops) refl (weaken M' (one_step M' _ _ refl) (omega arith) (omega arith)))
 
-  pub br_if_node : (C : Ctx) (ex : List Value) (e : List Place) (ss : List (List Place)) (ws : List Wit) (i cl : ℕ) (r : Option ValType) (l ops : List Value) (en : ℕ) (kd : Kind) (Ls : List Label) (Fs : List Frame) (g : World) (co : List CollectorCall) (o n : ℕ) (rest : Nodes) → FitsFrame M E gl None (frame i r cl l (label ops (jump o (BrIf n) rest) en kd ∷ Ls)) (wit C ex (e ∷ ss)) → FitsFrames M E gl W.result r Fs ws → WorldFits M gl g → After M M' E gl W (tgt M W C ex e ss ws r l ops kd Ls Fs g co (jump o (BrIf n) rest)) (branch_if M n ops rest (frame i r cl l (label ops (jump o (BrIf n) rest) en kd ∷ Ls)) (label ops (jump o (BrIf n) rest) en kd) Ls Fs g co)
+  pub br_if_node : (C : Ctx) (ex : List Value) (e : List Place) (ss : List (List Place)) (ws : List Wit) (i cl : ℕ) (r : Option ValType) (l ops : List Value) (en : ℕ) (kd : Kind) (Ls : List Label) (Fs : List Frame) (g : World) (co : List CollectorCall) (o n : ℕ) (rest : Nodes) → FitsFrame M E gl None (frame i r cl l (label ops (jump o (BrIf n) rest) en kd ∷ Ls)) (wit C ex (e ∷ ss)) → FitsFrames M E gl W.result r Fs ws → WorldFits M gl g → Comes M M' E gl W (tgt M W C ex e ss ws r l ops kd Ls Fs g co (jump o (BrIf n) rest)) (branch_if M n ops rest (frame i r cl l (label ops (jump o (BrIf n) rest) en kd ∷ Ls)) (label ops (jump o (BrIf n) rest) en kd) Ls Fs g co)
   br_if_node C ex e ss ws i cl r l [] en kd Ls Fs g co o n rest f fs gl_ = tt
   br_if_node C ex e ss ws i cl r l (values.I64 v ∷ ops) en kd Ls Fs g co o n rest f fs gl_ = tt
   br_if_node C ex [] ss ws i cl r l (values.I32 v ∷ ops) en kd Ls Fs g co o n rest f fs gl_ = absurd f.labels.0
@@ -338,7 +338,7 @@ module _ (M M' : Engine) (E : ℕ) (gl : List ValType) (W : Wrap) where
   same_result-refl None = refl
   same_result-refl (Some t) = same_of t t refl
 
-  tabled : (C : Ctx) (ex : List Value) (e1 : Place) (e : List Place) (ss : List (List Place)) (ws : List Wit) (i cl : ℕ) (r : Option ValType) (l ops : List Value) (en : ℕ) (kd : Kind) (Ls : List Label) (Fs : List Frame) (g : World) (co : List CollectorCall) (o v d : ℕ) (ts : List ℕ) (rest : Nodes) (b : Bool) → FitsFrame M E gl None (frame i r cl l (label (values.I32 v ∷ ops) (jump o (BrTable ts d) rest) en kd ∷ Ls)) (wit C ex ((e1 ∷ e) ∷ ss)) → FitsFrames M E gl W.result r Fs ws → WorldFits M gl g → same_carry (carry (pick ts d v) (label (values.I32 v ∷ ops) (jump o (BrTable ts d) rest) en kd ∷ Ls)) (carry d (label (values.I32 v ∷ ops) (jump o (BrTable ts d) rest) en kd ∷ Ls)) ≡ b → After M M' E gl W (tgt M W C ex (e1 ∷ e) ss ws r l (values.I32 v ∷ ops) kd Ls Fs g co (jump o (BrTable ts d) rest)) (moved_if M b (branch (pick ts d v) ops (label (values.I32 v ∷ ops) (jump o (BrTable ts d) rest) en kd ∷ Ls)) (frame i r cl l (label (values.I32 v ∷ ops) (jump o (BrTable ts d) rest) en kd ∷ Ls)) Fs g co)
+  tabled : (C : Ctx) (ex : List Value) (e1 : Place) (e : List Place) (ss : List (List Place)) (ws : List Wit) (i cl : ℕ) (r : Option ValType) (l ops : List Value) (en : ℕ) (kd : Kind) (Ls : List Label) (Fs : List Frame) (g : World) (co : List CollectorCall) (o v d : ℕ) (ts : List ℕ) (rest : Nodes) (b : Bool) → FitsFrame M E gl None (frame i r cl l (label (values.I32 v ∷ ops) (jump o (BrTable ts d) rest) en kd ∷ Ls)) (wit C ex ((e1 ∷ e) ∷ ss)) → FitsFrames M E gl W.result r Fs ws → WorldFits M gl g → same_carry (carry (pick ts d v) (label (values.I32 v ∷ ops) (jump o (BrTable ts d) rest) en kd ∷ Ls)) (carry d (label (values.I32 v ∷ ops) (jump o (BrTable ts d) rest) en kd ∷ Ls)) ≡ b → Comes M M' E gl W (tgt M W C ex (e1 ∷ e) ss ws r l (values.I32 v ∷ ops) kd Ls Fs g co (jump o (BrTable ts d) rest)) (moved_if M b (branch (pick ts d v) ops (label (values.I32 v ∷ ops) (jump o (BrTable ts d) rest) en kd ∷ Ls)) (frame i r cl l (label (values.I32 v ∷ ops) (jump o (BrTable ts d) rest) en kd ∷ Ls)) Fs g co)
   tabled C ex e1 e ss ws i cl r l ops en kd Ls Fs g co o v d ts rest false f fs gl_ q = tt
   tabled C ex e1 e ss ws i cl r l ops en kd Ls Fs g co o v d ts rest true f fs gl_ q =
       let h = f.labels in
@@ -359,7 +359,7 @@ module _ (M M' : Engine) (E : ℕ) (gl : List ValType) (W : Wrap) where
       br_sim C ex ws i cl r l Fs g co (tgt M W C ex (e1 ∷ e) ss ws r l all kd Ls Fs g co nodes) (L0 ∷ Ls) ((e1 ∷ e) ∷ ss) Lx f fs gl_ ops all code n L0 Ls (e1 ∷ e) ss h
       (weaken M' (one_step M' _ _ (ap (λ z. moved_if M' z (branch n ops Lx) FX (t_frames W r Fs ws) (flagged M g (values.I32 0)) co) ok)) (omega arith) (omega arith))
 
-  pub table_node : (C : Ctx) (ex : List Value) (e : List Place) (ss : List (List Place)) (ws : List Wit) (i cl : ℕ) (r : Option ValType) (l ops : List Value) (en : ℕ) (kd : Kind) (Ls : List Label) (Fs : List Frame) (g : World) (co : List CollectorCall) (o d : ℕ) (ts : List ℕ) (rest : Nodes) → FitsFrame M E gl None (frame i r cl l (label ops (jump o (BrTable ts d) rest) en kd ∷ Ls)) (wit C ex (e ∷ ss)) → FitsFrames M E gl W.result r Fs ws → WorldFits M gl g → After M M' E gl W (tgt M W C ex e ss ws r l ops kd Ls Fs g co (jump o (BrTable ts d) rest)) (branch_table M ts d ops (frame i r cl l (label ops (jump o (BrTable ts d) rest) en kd ∷ Ls)) (label ops (jump o (BrTable ts d) rest) en kd) Ls Fs g co)
+  pub table_node : (C : Ctx) (ex : List Value) (e : List Place) (ss : List (List Place)) (ws : List Wit) (i cl : ℕ) (r : Option ValType) (l ops : List Value) (en : ℕ) (kd : Kind) (Ls : List Label) (Fs : List Frame) (g : World) (co : List CollectorCall) (o d : ℕ) (ts : List ℕ) (rest : Nodes) → FitsFrame M E gl None (frame i r cl l (label ops (jump o (BrTable ts d) rest) en kd ∷ Ls)) (wit C ex (e ∷ ss)) → FitsFrames M E gl W.result r Fs ws → WorldFits M gl g → Comes M M' E gl W (tgt M W C ex e ss ws r l ops kd Ls Fs g co (jump o (BrTable ts d) rest)) (branch_table M ts d ops (frame i r cl l (label ops (jump o (BrTable ts d) rest) en kd ∷ Ls)) (label ops (jump o (BrTable ts d) rest) en kd) Ls Fs g co)
   table_node C ex e ss ws i cl r l [] en kd Ls Fs g co o d ts rest f fs gl_ = tt
   table_node C ex e ss ws i cl r l (values.I64 v ∷ ops) en kd Ls Fs g co o d ts rest f fs gl_ = tt
   table_node C ex [] ss ws i cl r l (values.I32 v ∷ ops) en kd Ls Fs g co o d ts rest f fs gl_ = absurd f.labels.0

@@ -1,5 +1,5 @@
 -- A table that is doubled: its length, and where the entries stand that the module itself calls.
-use Rattle.std.proofs.Common.{◌≡◌, ℕ, ◌+◌, ◌*◌, ◌<◌, ◌≤◌, List, [], ◌∷◌, ◌++◌, length, map, Option, Some, None, Bool, true, false, ◌&&◌, nat_le, if◌then◌else◌, refl, sym, ap, ◌∙◌, arith, slice_get, option_map, unwrap_or, take, drop, replicate, leb-true, length-append, length-drop, length-take-le}
+use Rattle.std.proofs.Common.{◌≡◌, ℕ, ◌+◌, ◌*◌, ◌<◌, ◌≤◌, List, [], ◌∷◌, ◌++◌, length, map, Option, Some, None, Bool, true, false, ◌&&◌, nat_le, if◌then◌else◌, refl, sym, ap, ◌∙◌, arith, slice_get, option_map, take, drop, leb-true, length-append, length-drop, length-take-le}
 use Rattle.std.specs.Prelude.{fold, sum}
 use Rattle.std.specs.List.{AllByRecursion}
 use Rattle.std.proofs.lemmas.List.{length-map, length-replicate}
@@ -12,7 +12,7 @@ use Rattle.wasm_syntax.specs.declared.module.ModuleParts.{ModuleParts as Module}
 use Rattle.wasm_syntax.specs.Run.{table_min, start_table, element_at, element_fits}
 use Rattle.wasm_syntax.specs.Run as runs_
 use Rattle.rewrite_bodies.specs.calls.Guards.{first_table}
-use Rattle.rewrite_bodies.specs.Numbering.{mapped, shown, shown_entries, new_entries, all_true, can_double, table_shown, entry_weight, table_weight, doubles}
+use Rattle.rewrite_bodies.specs.Numbering.{mapped, shown, new_entries, all_true, can_double, table_shown, entry_weight, table_weight, doubles}
 use Rattle.pm_text.proofs.Lists.{get_behind}
 
 -- ---- the table where an instance starts has the length that the module gives it, where each segment fits

@@ -1,5 +1,5 @@
 -- The guards.
-use Rattle.std.proofs.Common.{◌≡◌, ℕ, zero, suc, ◌+◌, ◌-◌, ◌*◌, ◌/◌, ◌%◌, ◌^◌, ◌<◌, ◌≤◌, ◌==◌, List, [], ◌∷◌, ◌++◌, length, Option, Some, None, Bool, true, false, ◌&&◌, nat_lt, nat_le, refl, sym, ap, ◌∙◌, subst, arith, inl, inr, ◌≢◌, if◌then◌else◌, lt-ltb, le-ltb, take, drop, replicate, Ok, Err, leb-true, length-drop, length-take-le, not, int_div, int_rem, int_lt, ◌⊎◌, ℤ, pos, negsuc, ap₂, true≢false}
+use Rattle.std.proofs.Common.{◌≡◌, ℕ, zero, suc, ◌+◌, ◌-◌, ◌*◌, ◌/◌, ◌%◌, ◌^◌, ◌<◌, ◌≤◌, ◌==◌, List, [], ◌∷◌, ◌++◌, length, Option, Some, None, Bool, true, false, ◌&&◌, nat_lt, nat_le, refl, sym, ap, ◌∙◌, subst, arith, inl, inr, ◌≢◌, if◌then◌else◌, lt-ltb, le-ltb, take, drop, replicate, Ok, Err, leb-true, length-drop, length-take-le, not, int_div, int_rem, int_lt, ◌⊎◌, pos, negsuc, ap₂, true≢false}
 use Rattle.wasm_syntax.specs.declared.value.ValType.{ValType}
 use Rattle.wasm_syntax.specs.declared.value.ValType.TheVariants.{I32, I64}
 use Rattle.wasm_syntax.specs.declared.value.Value.{Value}

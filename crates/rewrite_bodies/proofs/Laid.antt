@@ -13,7 +13,7 @@ use Rattle.wasm_syntax.specs.Effect.{takes}
 use Rattle.wasm_syntax.specs.Machine.{Frame, leaves, returns, label, frame, config, Engine, result_of}
 use Rattle.rewrite_bodies.specs.Numbering.{import_count}
 use Rattle.rewrite_bodies.specs.calls.Slots.{Place, Landing, Ctx, less, pushed, grown, under, result_type, freed, after_plain}
-use Rattle.rewrite_bodies.specs.calls.Landings.{number_of, landing_of, landing_behind, most_landings, at_end, unless_there, with_some, landing_call, landings_call, landings_jump, landings_from, landed}
+use Rattle.rewrite_bodies.specs.calls.Landings.{number_of, landing_behind, most_landings, at_end, unless_there, with_some, landing_call, landings_call, landings_jump, landings_from, landed, landing_at}
 use Rattle.rewrite_bodies.specs.calls.Rewrite.{rewrite, landing_code, nested, exit_code, laid}
 use Rattle.rewrite_bodies.specs.calls.Agreement.{l_labels, FitsIn, Room_call, Room_jump, Room}
 use Rattle.rewrite_bodies.specs.calls.Steps.{To}
@@ -54,7 +54,7 @@ few_jump C (CallIndirect t) es xs go h le = few_called true (slice_get C.source.
 
 pub few_landings : (C : Ctx) (es : List Place) (nodes : Nodes) (xs : List Landing) → length xs ≤ most_landings → length (landings_from C es nodes xs) ≤ most_landings
 few_landings C es stop xs le = le
-few_landings C es (basic o i rest) xs le = few_landings C (after_plain C es i) rest (with_some (landing_of i es) xs) (few_some (landing_of i es) xs le)
+few_landings C es (basic o i rest) xs le = few_landings C (after_plain C es i) rest (with_some (landing_at C o i es) xs) (few_some (landing_at C o i es) xs le)
 few_landings C es (jump o j rest) xs le = few_jump C j es xs (λ es' xs'. landings_from C es' rest xs') (λ es' xs' le'. few_landings C es' rest xs' le') le
 few_landings C es (block o t inner end rest) xs le = few_landings C (grown t (under es)) rest (landings_from C (under es) inner xs) (few_landings C (under es) inner xs le)
 few_landings C es (loop o t inner end rest) xs le = few_landings C (grown t (under es)) rest (landings_from C (under es) inner xs) (few_landings C (under es) inner xs le)
@@ -63,9 +63,9 @@ few_landings C es (choose o t a ea b end rest) xs le =
 
 -- ---- the same room
 
-module _ (C : Ctx) (xs : List Landing) where
+module _ (C : Ctx) (os : List ℕ) (xs : List Landing) where
   abbrev D : Ctx
-  D = landed C xs
+  D = landed C os xs
 
   pub same_at : (es : List Place) (i : Basic) → (result_type C es i ≡ result_type D es i) × (after_plain C es i ≡ after_plain D es i)
   same_at es i = (result_alike C D es i refl refl, ap (λ (p : Option Place). pushed p (freed i (less (takes i) es))) (place_alike C D es i (treated i) refl refl))

@@ -1,7 +1,7 @@
 -- The bytes of rewritten nodes and bodies.
 use Rattle.rewrite_bodies.proofs.Laid.{same_at, room_landed}
-use Rattle.rewrite_bodies.proofs.Charges.{costs_of, charge, charge_at, charge_behind, charge_call, charged, charge_low, all_paid}
-use Rattle.rewrite_bodies.specs.calls.Landings.{number_in, landing_of, one_kind, with_some, landing_call, landings_call, landings_jump, landings_from, landed}
+use Rattle.rewrite_bodies.proofs.Charges.{costs_of, charge, charge_at, charge_behind, charge_call, charged, charge_low, all_paid, charge_of}
+use Rattle.rewrite_bodies.specs.calls.Landings.{number_in, landing_of, one_kind, with_some, landing_call, landings_call, landings_jump, landings_from, landed, landing_at, needed}
 use Rattle.std.proofs.Common.{◌≡◌, ℕ, zero, suc, ◌==◌, ◌+◌, ◌*◌, ◌≤◌, nat_lt, List, [], ◌∷◌, ◌++◌, length, map, reverse, Option, Some, None, Bool, true, false, refl, sym, ap, ◌∙◌, subst, arith, slice_get, option_map, option_to_list, take}
 use Rattle.std.proofs.lemmas.List.{length-reverse}
 use Rattle.wasm_syntax.specs.declared.value.ValType.{ValType}
@@ -33,6 +33,8 @@ use Rattle.wasm_laws.proofs.Safe.{one_result}
 use Rattle.rewrite_bodies.proofs.Lengths.{len_const, len_call, len_global_set, costs_twice, known, known-append, known_parts, known_grown, known_pushed, known_without, length_parts, len_get, len_fetched, len_load, len_hand_value, len_store, len_keep, len_keep_result, len_reload, len_drops, len_spill, len_unwind_kind, len_test_flag, len_test_both, len_guard, len_kind, len_set, len_branch, len_hand, len_landing}
 use Rattle.wasm_leb.proofs.Lengths.{ten_bytes}
 use Rattle.rewrite_bodies.proofs.Risks.{risk_of, Treated, gets, sets, tees, constant, spills, treated}
+use Rattle.rewrite_bodies.specs.calls.Facts.{needs, exposed_in}
+use Rattle.rewrite_bodies.proofs.FactLaws.{needs_trap}
 
 -- so many are there to be taken
 taken_all : (n : ℕ) (own js : List Place) (taken below : List ValType) → length taken ≡ n → map place_type own ≡ taken ++ below → n ≤ length (take n (own ++ js))
@@ -77,19 +79,19 @@ module _ (C : Ctx) (few : FewNumbers C) where
       let b = charge_low (Some n) (one_kind i) es in
       omega (arith, a, b)
 
-  guarded_short : (d : ℕ) (es : List Place) (o : ℕ) (i : Basic) (k : Nodes) (q : Bool) → can_trap i ≡ q → length es ≤ C.slots → code_length (guarded q C d es o i k) + charge_at C i es ≤ 153 + 16 * length es + code_length k
-  guarded_short d es o i k false t le = let a = charge_low (number_in C.landings (landing_of i es)) (one_kind i) es in omega (arith, a)
-  guarded_short d es o i k true t le = checked_short (number_in C.landings (landing_of i es)) d es o i k (risk_of i t) le
+  guarded_short : (d : ℕ) (es : List Place) (o : ℕ) (i : Basic) (k : Nodes) (q : Bool) → (q ≡ true → can_trap i ≡ true) → length es ≤ C.slots → code_length (guarded q C d es o i k) + charge_of C (needed q (landing_of i es)) ≤ 153 + 16 * length es + code_length k
+  guarded_short d es o i k false t le = omega arith
+  guarded_short d es o i k true t le = checked_short (number_in C.landings (landing_of i es)) d es o i k (risk_of i (t refl)) le
 
-  freed_as : (i : Basic) → Treated i → (d : ℕ) (es left : List Place) (o : ℕ) (k : Nodes) → length es ≤ C.slots → length left ≤ length es → code_length (guarded (can_trap i) C d es o i (free C i left k)) + charge_at C i es ≤ 153 + 16 * length es + code_length k
+  freed_as : (i : Basic) → Treated i → (d : ℕ) (es left : List Place) (o : ℕ) (k : Nodes) → length es ≤ C.slots → length left ≤ length es → code_length (guarded (needs C o i) C d es o i (free C i left k)) + charge_at C o i es ≤ 153 + 16 * length es + code_length k
   freed_as i (sets x) d es left o k le ll = let a = len_spill C few (λ y. x == y) left k (omega (arith, le, ll)) in omega (arith, a, ll)
   freed_as i (tees x) d es left o k le ll = let a = len_spill C few (λ y. x == y) left k (omega (arith, le, ll)) in omega (arith, a, ll)
-  freed_as i (gets x) d es left o k le ll = guarded_short d es o (LocalGet x) k (can_trap (LocalGet x)) refl le
-  freed_as i (constant v) d es left o k le ll = guarded_short d es o (Const v) k (can_trap (Const v)) refl le
+  freed_as i (gets x) d es left o k le ll = guarded_short d es o (LocalGet x) k false (λ e. absurd (cc)) le
+  freed_as i (constant v) d es left o k le ll = guarded_short d es o (Const v) k false (λ e. absurd (cc)) le
   freed_as i (spills none no_local given) d es left o k le ll =
-      subst (λ (x : Option ℕ). code_length (guarded (can_trap i) C d es o i (free_at C x left k)) + charge_at C i es ≤ 153 + 16 * length es + code_length k) (sym none) (guarded_short d es o i k (can_trap i) refl le)
+      subst (λ (x : Option ℕ). code_length (guarded (needs C o i) C d es o i (free_at C x left k)) + charge_at C o i es ≤ 153 + 16 * length es + code_length k) (sym none) (guarded_short d es o i k (needs C o i) (needs_trap C o i) le)
 
-  freed_short : (d : ℕ) (es left : List Place) (o : ℕ) (i : Basic) (k : Nodes) → length es ≤ C.slots → length left ≤ length es → code_length (guarded (can_trap i) C d es o i (free C i left k)) + charge_at C i es ≤ 153 + 16 * length es + code_length k
+  freed_short : (d : ℕ) (es left : List Place) (o : ℕ) (i : Basic) (k : Nodes) → length es ≤ C.slots → length left ≤ length es → code_length (guarded (needs C o i) C d es o i (free C i left k)) + charge_at C o i es ≤ 153 + 16 * length es + code_length k
   freed_short d es left o i k le ll = freed_as i (treated i) d es left o k le ll
 
   known_freed : (i : Basic) (es : List Place) → known (freed i es) ≤ known es
@@ -382,13 +384,13 @@ type_in C f type e = inside (slice_get (function_types C.source) f) e
     inside None e = absurd (cc)
     inside (Some t) e = (t, e)
 
--- the landings and the weight do not depend on what landings are known
+-- the landings do not depend on what landings are known
 module _ (C : Ctx) (ys : List Landing) where
   same_called : (b : Bool) (o : Option FuncType) (es : List Place) (xs : List Landing) (go go' : List Place → List Landing → List Landing) → ((es' : List Place) (xs' : List Landing) → go es' xs' ≡ go' es' xs') → landings_call b o es xs go ≡ landings_call b o es xs go'
   same_called b None es xs go go' f = refl
   same_called b (Some type) es xs go go' f = f (grown (result_of type) (less (length type.params) es)) (landing_call b (less (length type.params) es) xs)
 
-  same_jump : (j : Jump) (es : List Place) (xs : List Landing) (go go' : List Place → List Landing → List Landing) → ((es' : List Place) (xs' : List Landing) → go es' xs' ≡ go' es' xs') → landings_jump C j es xs go ≡ landings_jump (landed C ys) j es xs go'
+  same_jump : (j : Jump) (es : List Place) (xs : List Landing) (go go' : List Place → List Landing → List Landing) → ((es' : List Place) (xs' : List Landing) → go es' xs' ≡ go' es' xs') → landings_jump C j es xs go ≡ landings_jump (landed C C.exposed ys) j es xs go'
   same_jump Unreachable es xs go go' f = refl
   same_jump (Br l) es xs go go' f = refl
   same_jump (BrIf l) es xs go go' f = f (less 1 es) xs
@@ -397,25 +399,27 @@ module _ (C : Ctx) (ys : List Landing) where
   same_jump (Call g) es xs go go' f = same_called (nat_lt g (import_count C.source)) (type_at C.source g) es xs go go' f
   same_jump (CallIndirect t) es xs go go' f = same_called true (slice_get C.source.types t) (less 1 es) xs go go' f
 
-  same_landings : (es : List Place) (nodes : Nodes) (xs : List Landing) → landings_from C es nodes xs ≡ landings_from (landed C ys) es nodes xs
+  same_landings : (es : List Place) (nodes : Nodes) (xs : List Landing) → landings_from C es nodes xs ≡ landings_from (landed C C.exposed ys) es nodes xs
   same_landings es stop xs = refl
   same_landings es (basic o i rest) xs =
-      same_landings (after_plain C es i) rest (with_some (landing_of i es) xs) ∙ ap (λ z. landings_from (landed C ys) z rest (with_some (landing_of i es) xs)) (same_at C ys es i).1
-  same_landings es (jump o j rest) xs = same_jump j es xs (λ es' xs'. landings_from C es' rest xs') (λ es' xs'. landings_from (landed C ys) es' rest xs') (λ es' xs'. same_landings es' rest xs')
+      same_landings (after_plain C es i) rest (with_some (landing_at C o i es) xs) ∙ ap (λ z. landings_from (landed C C.exposed ys) z rest (with_some (landing_at C o i es) xs)) (same_at C C.exposed ys es i).1
+  same_landings es (jump o j rest) xs = same_jump j es xs (λ es' xs'. landings_from C es' rest xs') (λ es' xs'. landings_from (landed C C.exposed ys) es' rest xs') (λ es' xs'. same_landings es' rest xs')
   same_landings es (block o t inner end rest) xs =
-      same_landings (grown t (under es)) rest (landings_from C (under es) inner xs) ∙ ap (landings_from (landed C ys) (grown t (under es)) rest) (same_landings (under es) inner xs)
+      same_landings (grown t (under es)) rest (landings_from C (under es) inner xs) ∙ ap (landings_from (landed C C.exposed ys) (grown t (under es)) rest) (same_landings (under es) inner xs)
   same_landings es (loop o t inner end rest) xs =
-      same_landings (grown t (under es)) rest (landings_from C (under es) inner xs) ∙ ap (landings_from (landed C ys) (grown t (under es)) rest) (same_landings (under es) inner xs)
+      same_landings (grown t (under es)) rest (landings_from C (under es) inner xs) ∙ ap (landings_from (landed C C.exposed ys) (grown t (under es)) rest) (same_landings (under es) inner xs)
   same_landings es (choose o t a ea b end rest) xs =
       let left = under (less 1 es) in
       same_landings (grown t left) rest (landings_from C left b (landings_from C left a xs))
-      ∙ ap (landings_from (landed C ys) (grown t left) rest) (same_landings left b (landings_from C left a xs) ∙ ap (landings_from (landed C ys) left b) (same_landings left a xs))
+      ∙ ap (landings_from (landed C C.exposed ys) (grown t left) rest) (same_landings left b (landings_from C left a xs) ∙ ap (landings_from (landed C C.exposed ys) left b) (same_landings left a xs))
 
+-- nor does the weight on what is exposed
+module _ (C : Ctx) (os : List ℕ) (ys : List Landing) where
   same_behind : (o : Option FuncType) (es : List Place) (go go' : List Place → ℕ) → ((es' : List Place) → go es' ≡ go' es') → behind_call o es go ≡ behind_call o es go'
   same_behind None es go go' f = refl
   same_behind (Some type) es go go' f = f (grown (result_of type) (less (length type.params) es))
 
-  same_weights : (j : Jump) (es : List Place) (go go' : List Place → ℕ) → ((es' : List Place) → go es' ≡ go' es') → behind_jump C j es go ≡ behind_jump (landed C ys) j es go'
+  same_weights : (j : Jump) (es : List Place) (go go' : List Place → ℕ) → ((es' : List Place) → go es' ≡ go' es') → behind_jump C j es go ≡ behind_jump (landed C os ys) j es go'
   same_weights Unreachable es go go' f = refl
   same_weights (Br l) es go go' f = refl
   same_weights (BrIf l) es go go' f = f (less 1 es)
@@ -424,11 +428,11 @@ module _ (C : Ctx) (ys : List Landing) where
   same_weights (Call g) es go go' f = same_behind (type_at C.source g) es go go' f
   same_weights (CallIndirect t) es go go' f = same_behind (slice_get C.source.types t) (less 1 es) go go' f
 
-  same_weight : (es : List Place) (nodes : Nodes) → live_weight C es nodes ≡ live_weight (landed C ys) es nodes
+  same_weight : (es : List Place) (nodes : Nodes) → live_weight C es nodes ≡ live_weight (landed C os ys) es nodes
   same_weight es stop = refl
   same_weight es (basic o i rest) =
-      ap (λ z. node_weight (basic_length i) (length es) + long_guard i + z) (same_weight (after_plain C es i) rest ∙ ap (λ z. live_weight (landed C ys) z rest) (same_at C ys es i).1)
-  same_weight es (jump o j rest) = ap (λ z. node_weight (jump_length j) (length es) + z) (same_weights j es (λ es'. live_weight C es' rest) (λ es'. live_weight (landed C ys) es' rest) (λ es'. same_weight es' rest))
+      ap (λ z. node_weight (basic_length i) (length es) + long_guard i + z) (same_weight (after_plain C es i) rest ∙ ap (λ z. live_weight (landed C os ys) z rest) (same_at C os ys es i).1)
+  same_weight es (jump o j rest) = ap (λ z. node_weight (jump_length j) (length es) + z) (same_weights j es (λ es'. live_weight C es' rest) (λ es'. live_weight (landed C os ys) es' rest) (λ es'. same_weight es' rest))
   same_weight es (block o t inner end rest) = let a = same_weight (under es) inner in let b = same_weight (grown t (under es)) rest in omega (arith, a, b)
   same_weight es (loop o t inner end rest) = let a = same_weight (under es) inner in let b = same_weight (grown t (under es)) rest in omega (arith, a, b)
   same_weight es (choose o t a None b end rest) =
@@ -439,8 +443,10 @@ module _ (C : Ctx) (ys : List Landing) where
 pub bodies_short : (C : Ctx) → BodyShort C
 bodies_short C nodes few results it rm ty =
     let of = λ (t : ℕ) (type : FuncType) (e : slice_get C.source.types t ≡ Some type). one_result type.results (results t type e) in
-    let xs = landings_from C [] nodes [] in
-    let D = landed C xs in
+    let os = exposed_in nodes in
+    let C1 = landed C os [] in
+    let xs = landings_from C1 [] nodes [] in
+    let D = landed C os xs in
     let few' : FewNumbers D = record { locals = few.locals; imports = few.imports } in
-    let a : code_length (body C nodes) ≤ live_weight D [] nodes + (192 + 16 * length C.locals) = laid_short D few' (λ f type e. let t = type_in C f type e in of t.0 type t.1) of nodes (all_fine_landed C xs xs (fine_landings C [] nodes [] tt rm tt)) (sym (same_landings C xs [] nodes [])) it (room_landed C xs [] nodes rm) ty in
-    subst (λ w. code_length (body C nodes) ≤ w + (192 + 16 * length C.locals)) (sym (same_weight C xs [] nodes)) a
+    let a : code_length (body C nodes) ≤ live_weight D [] nodes + (192 + 16 * length C.locals) = laid_short D few' (λ f type e. let t = type_in C f type e in of t.0 type t.1) of nodes (all_fine_landed C1 os xs xs (fine_landings C1 [] nodes [] tt (room_landed C os [] [] nodes rm) tt)) (sym (same_landings C1 xs [] nodes [])) it (room_landed C os xs [] nodes rm) ty in
+    subst (λ w. code_length (body C nodes) ≤ w + (192 + 16 * length C.locals)) (sym (same_weight C os xs [] nodes)) a

@@ -1,6 +1,8 @@
 pub mod Run
 pub mod Parts
 pub mod Risks
+pub mod FactLaws
+pub mod KnownSteps
 pub mod Landed
 pub mod Laid
 pub mod OneKind

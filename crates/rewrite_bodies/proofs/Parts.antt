@@ -1,7 +1,7 @@
 -- Lemmas on single parts: a basic instruction under more locals and globals, results that arrive.
 use Rattle.std.proofs.Common.{◌≡◌, ℕ, zero, suc, ◌+◌, ◌*◌, ◌/◌, ◌%◌, ◌≤◌, ◌==◌, List, [], ◌∷◌, ◌++◌, length, Option, Some, None, Bool, true, false, nat_le, refl, sym, ap, ◌∙◌, subst, arith, length-append, slice_get, slice_set, if◌then◌else◌, take, drop, replicate, Result, Ok, Err, leb-true, length-drop, length-take-le, subst₂}
 use Rattle.wasm_syntax.specs.declared.value.ValType.{ValType}
-use Rattle.wasm_syntax.specs.declared.value.ValType.TheVariants.{I32, I64}
+use Rattle.wasm_syntax.specs.declared.value.ValType.TheVariants.{I32}
 use Rattle.wasm_syntax.specs.declared.value.Value.{Value}
 use Rattle.wasm_syntax.specs.declared.value.Value.TheVariants as values
 use Rattle.wasm_syntax.specs.declared.instruction.Basic.{Basic}
@@ -58,7 +58,7 @@ one_result v t d = rw (same_of (type_of v) t d) refl
 leb_cases : (a b : ℕ) (q : Bool) → nat_le a b ≡ q → (q ≡ true) → a ≤ b
 leb_cases a b q e t = leb-true a b (e ∙ t)
 
-put_fits : (m m' : Memory) (at : ℕ) (new : List ℕ) (q : Bool) → nat_le (at + length new) (length m.bytes) ≡ q → (if q then Some (record m { bytes = memories.splice m.bytes at new }) else None) ≡ Some m' → (length m'.bytes ≡ length m.bytes) × (m'.max ≡ m.max)
+pub put_fits : (m m' : Memory) (at : ℕ) (new : List ℕ) (q : Bool) → nat_le (at + length new) (length m.bytes) ≡ q → (if q then Some (record m { bytes = memories.splice m.bytes at new }) else None) ≡ Some m' → (length m'.bytes ≡ length m.bytes) × (m'.max ≡ m.max)
 put_fits m m' at new true q e =
     let z : record m { bytes = memories.splice m.bytes at new } ≡ m' = cc in
     let le : at + length new ≤ length m.bytes = leb-true (at + length new) (length m.bytes) q in

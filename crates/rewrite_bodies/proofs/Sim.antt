@@ -2,7 +2,6 @@
 -- what the rewritten module has for a function
 use Rattle.std.proofs.Common.{◌≡◌, ℕ, zero, suc, ◌≤◌, List, [], ◌∷◌, ◌++◌, length, Option, Some, None, Bool, true, false, refl, sym, ap, ◌∙◌, subst, subst₂, arith, ◌≢◌, slice_get, slice_set, option_map, length-append, ◌==◌, ◌+◌, ◌*◌}
 use Rattle.wasm_syntax.specs.declared.value.ValType.{ValType}
-use Rattle.wasm_syntax.specs.declared.value.ValType.TheVariants.{I32}
 use Rattle.wasm_syntax.specs.declared.value.Value.{Value}
 use Rattle.wasm_syntax.specs.declared.value.Value.TheVariants as values
 use Rattle.wasm_syntax.specs.declared.instruction.Basic.{Basic}
@@ -21,7 +20,7 @@ use Rattle.rewrite_bodies.specs.calls.Guards.{can_trap, guard, kind}
 use Rattle.rewrite_bodies.specs.calls.Agreement.{Holds, awaits, pending, joined, t_kind, t_labels, Wit, UnderWay, FitsIn, Room, FitsLabels, FitsOpen, MemoryFits, NoKind, WorldFits, FitsFrame, FitsFrames, Wrap, t_frames, flagged}
 use Rattle.rewrite_bodies.specs.calls.Steps.{To, Shell, st}
 use Rattle.rewrite_bodies.proofs.Run.{stored, HasPlace, types-stored, get_own, slice_get-put_same, types-slice_set, added_at, still, one_step, seq, weaken, get_to, put_to, tee_to, kept_to, less_holds}
-use Rattle.rewrite_bodies.specs.inner.Promises.{kind_of, verdict}
+use Rattle.rewrite_bodies.specs.inner.Promises.{kind_of, verdict, Comes}
 use Rattle.rewrite_bodies.proofs.Parts.{Rel, framed, match_of, settle, step_plain, types_get, set-append_left}
 use Rattle.rewrite_bodies.proofs.Copies.{labels_fixed, fixed_under, fixed_holds, fits_within, without_append, without_length, spill_to, holds_set}
 use Rattle.wasm_syntax.proofs.Types.{same_type_is}
@@ -29,13 +28,14 @@ use Rattle.rewrite_bodies.proofs.Guards.{guard_to}
 use Rattle.rewrite_bodies.proofs.Landed.{marked, types_marked, fits_marked, br_if_down, mark_to}
 use Rattle.rewrite_bodies.specs.calls.Landings.{number_in, landing_of}
 use Rattle.rewrite_bodies.specs.calls.Offsets.{SmallOffset}
-use Rattle.rewrite_bodies.specs.calls.Standing.{After}
 use Rattle.std.specs.Prelude.{unwrap_or}
+use Rattle.rewrite_bodies.specs.calls.Facts.{needs}
+use Rattle.rewrite_bodies.proofs.FactLaws.{needs_trap}
 
 -- a frame with other locals, labels and places, under a call or not
 pub refit_under : {M : Engine} {E : ℕ} {gl : List ValType} {a : Option ValType} {ix cl : ℕ} {r : Option ValType} {l : List Value} {Ls : List Label} {w : Wit} (l' : List Value) (Ls' : List Label) (ex' : List Value) (ss' : List (List Place)) (others : Option UnderWay) (b : Option ValType) (cl' : ℕ) → FitsFrame M E gl a (frame ix r cl l Ls) w → types l' ≡ types l → types ex' ≡ types w.ex → FitsOpen w.ctx l' ex' b Ls' ss' → NoKind w.ctx ex' others → FitsFrame M E gl b (frame ix r cl' l' Ls') (record { ctx = w.ctx; ex = ex'; ss = ss'; under_way = others })
 refit_under l' Ls' ex' ss' others b cl' f ll le h nk =
-    record { size = ll ∙ f.size; room = le ∙ f.room; idx = f.idx; result = f.result; funcs = f.funcs; base = f.base; helpers = f.helpers; flag = f.flag; small = f.small; narrow = f.narrow; labels = h; no_kind = nk }
+    record { size = ll ∙ f.size; room = le ∙ f.room; idx = f.idx; result = f.result; funcs = f.funcs; base = f.base; helpers = f.helpers; flag = f.flag; small = f.small; exposed = f.exposed; narrow = f.narrow; labels = h; no_kind = nk }
 
 pub refit : {M : Engine} {E : ℕ} {gl : List ValType} {a : Option ValType} {ix cl : ℕ} {r : Option ValType} {l : List Value} {Ls : List Label} {w : Wit} (l' : List Value) (Ls' : List Label) (ex' : List Value) (ss' : List (List Place)) (b : Option ValType) (cl' : ℕ) → FitsFrame M E gl a (frame ix r cl l Ls) w → types l' ≡ types l → types ex' ≡ types w.ex → FitsOpen w.ctx l' ex' b Ls' ss' → FitsFrame M E gl b (frame ix r cl' l' Ls') (record { ctx = w.ctx; ex = ex'; ss = ss'; under_way = None })
 refit l' Ls' ex' ss' b cl' f ll le h = refit_under l' Ls' ex' ss' None b cl' f ll le h tt
@@ -140,9 +140,9 @@ module _ (M M' : Engine) (E : ℕ) (gl : List ValType) (W : Wrap) where
     checked_to (Some n) i o k vs below room t size mf so h c nw z =
         weaken M' (seq M' (mark_to M' C l size o ex room) (seq M' (rw z at (verdict_to (marked (Some n) C o ex) i (jump 0 (BrIf (ls + n)) k) vs below t size mf so h c nw)) (br_if_down M'))) (omega arith) (omega arith)
 
-    guarded_to : (i : Basic) (b : Bool) (o : ℕ) (k : Nodes) (vs below : List Value) → types ex ≡ added C.slots → can_trap i ≡ b → length C.locals ≡ length l → MemoryFits g.memory → SmallOffset i → Holds l (behind_guard b i o) (joined ss) ops e → cut (takes i) ops ≡ parts vs below → effect i g l vs ≢ unfit → kind_of (effect i g l vs) ≡ 0 → To M' 0 30 (st X (l ++ ex) ops (guarded b C ls es o i k) g0 co) (st X (l ++ behind_guard b i o) ops k g0 co)
+    guarded_to : (i : Basic) (b : Bool) (o : ℕ) (k : Nodes) (vs below : List Value) → types ex ≡ added C.slots → (b ≡ true → can_trap i ≡ true) → length C.locals ≡ length l → MemoryFits g.memory → SmallOffset i → Holds l (behind_guard b i o) (joined ss) ops e → cut (takes i) ops ≡ parts vs below → effect i g l vs ≢ unfit → kind_of (effect i g l vs) ≡ 0 → To M' 0 30 (st X (l ++ ex) ops (guarded b C ls es o i k) g0 co) (st X (l ++ behind_guard b i o) ops k g0 co)
     guarded_to i false o k vs below room t size mf so h c nw z = weaken M' (still M' _) (omega arith) (omega arith)
-    guarded_to i true o k vs below room t size mf so h c nw z = checked_to (number i) i o k vs below room t size mf so h c nw z
+    guarded_to i true o k vs below room t size mf so h c nw z = checked_to (number i) i o k vs below room (t refl) size mf so h c nw z
 
     abbrev pub F : Nodes → Frame
     F rest = frame ix r cl l (label ops rest en kd ∷ Ls)
@@ -162,13 +162,13 @@ module _ (M M' : Engine) (E : ℕ) (gl : List ValType) (W : Wrap) where
     abbrev pub RoomUsual : Basic → Nodes → Type 0
     RoomUsual i rest = SmallOffset i × FitsIn C (result_type C es i) (less (takes i) es) × Room C (grown (result_type C es i) (less (takes i) es)) rest
 
-    pub usual_gives : (i : Basic) (o : ℕ) (rest : Nodes) (vs below l' : List Value) (g' : World) (ws' : List Value) → FitsFrame M E gl None (F (basic o i rest)) w → FitsFrames M E gl W.result r Fs ws → WorldFits M gl g → RoomUsual i rest → l' ≡ l → cut (takes i) ops ≡ parts vs below → effect i g l vs ≡ gives g' l' ws' → After M M' E gl W (st X (l ++ ex) ops (usual (can_trap i) i o rest) g0 co) (next (config (frame ix r cl l' (label (ws' ++ below) rest en kd ∷ Ls) ∷ Fs) g' co))
+    pub usual_gives : (i : Basic) (o : ℕ) (rest : Nodes) (vs below l' : List Value) (g' : World) (ws' : List Value) → FitsFrame M E gl None (F (basic o i rest)) w → FitsFrames M E gl W.result r Fs ws → WorldFits M gl g → RoomUsual i rest → l' ≡ l → cut (takes i) ops ≡ parts vs below → effect i g l vs ≡ gives g' l' ws' → Comes M M' E gl W (st X (l ++ ex) ops (usual (needs C o i) i o rest) g0 co) (next (config (frame ix r cl l' (label (ws' ++ below) rest en kd ∷ Ls) ∷ Fs) g' co))
     usual_gives i o rest vs below l' g' ws' f fs wf rm lsame c p =
         let low : length es ≤ C.slots = room_height C es (basic o i rest) f.labels.2 in
-        let exm = behind_guard (can_trap i) i o in
-        let te : types exm ≡ types ex = types_behind (can_trap i) i o f.room in
+        let exm = behind_guard (needs C o i) i o in
+        let te : types exm ≡ types ex = types_behind (needs C o i) i o f.room in
         let roomm : types exm ≡ added C.slots = te ∙ f.room in
-        let h : FitsLabels C l exm None (label ops (basic o i rest) en kd ∷ Ls) (e ∷ ss) = fits_behind (can_trap i) i o None (label ops (basic o i rest) en kd ∷ Ls) (e ∷ ss) low f.labels in
+        let h : FitsLabels C l exm None (label ops (basic o i rest) en kd ∷ Ls) (e ∷ ss) = fits_behind (needs C o i) i o None (label ops (basic o i rest) en kd ∷ Ls) (e ∷ ss) low f.labels in
         let size = len_of l C.locals f.size in
         let lh = less_holds l exm (takes i) (joined ss) e ops vs below h.0 c in
         let e2 = lh.0 in
@@ -182,22 +182,22 @@ module _ (M M' : Engine) (E : ℕ) (gl : List ValType) (W : Wrap) where
         let kept = keep C (option_map Spilled r1) (e2 ++ joined ss) k1 in
         let code = basic 0 i kept in
         let g1 = flagged M g' (values.I32 0) in
-        let s0 : To M' 0 30 (st X (l ++ ex) ops (guarded (can_trap i) C ls es o i code) g0 co) (st X (l ++ exm) ops code g0 co) = guarded_to i (can_trap i) o code vs below f.room refl size wf.memory rm.0 h.0 c (λ n. cc) (ap kind_of p) in
+        let s0 : To M' 0 30 (st X (l ++ ex) ops (guarded (needs C o i) C ls es o i code) g0 co) (st X (l ++ exm) ops code g0 co) = guarded_to i (needs C o i) o code vs below f.room (needs_trap C o i) size wf.memory rm.0 h.0 c (λ n. cc) (ap kind_of p) in
         let s1 : To M' 1 1 (st X (l ++ exm) ops code g0 co) (st X (l' ++ exm) (ws' ++ below) kept g1 co) = step_plain M' i vs below (l' ++ exm) g1 ws' (ws' ++ below) c fr.0 refl in
         let s2 : To M' 0 1 (st X (l' ++ exm) (ws' ++ below) kept g1 co) (st X (l' ++ ex2) (ws' ++ below) k1 g1 co) = kept_to M' C l' (len_of l' C.locals (fr.1 ∙ f.size)) exm r1 (e2 ++ joined ss) ws' below k1 pl fr.3 in
-        let all : To M' 1 E (st X (l ++ ex) ops (guarded (can_trap i) C ls es o i code) g0 co) (st X (l' ++ ex2) (ws' ++ below) k1 g1 co) = weaken M' (seq M' s0 (seq M' s1 s2)) (omega arith) (omega (arith, f.small)) in (
+        let all : To M' 1 E (st X (l ++ ex) ops (guarded (needs C o i) C ls es o i code) g0 co) (st X (l' ++ ex2) (ws' ++ below) k1 g1 co) = weaken M' (seq M' s0 (seq M' s1 s2)) (omega arith) (omega (arith, f.small)) in (
           wit C ex2 (grown r1 e2 ∷ ss) ∷ ws,
           (fr.2, (refit l' (label (ws' ++ below) rest en kd ∷ Ls) ex2 (grown r1 e2 ∷ ss) None cl f fr.1 (types-stored r1 (λ t. slot t (length (e2 ++ joined ss))) ws' exm pl fr.3 ∙ te) (subst (λ z. FitsLabels C z ex2 None (label (ws' ++ below) rest en kd ∷ Ls) (grown r1 e2 ∷ ss)) (sym lsame) hs), fs)),
-          subst₂ (λ a b. To M' 1 E (st X (l ++ ex) ops (guarded (can_trap i) C ls es o i (basic 0 i (keep C (option_map Spilled r1) a (rewrite C ls (grown r1 a) rest)))) g0 co) (st X (l' ++ ex2) (ws' ++ below) (rewrite C ls b rest) g1 co)) (sym lh.1) (grown-append r1 e2 (joined ss)) all,
+          subst₂ (λ a b. To M' 1 E (st X (l ++ ex) ops (guarded (needs C o i) C ls es o i (basic 0 i (keep C (option_map Spilled r1) a (rewrite C ls (grown r1 a) rest)))) g0 co) (st X (l' ++ ex2) (ws' ++ below) (rewrite C ls b rest) g1 co)) (sym lh.1) (grown-append r1 e2 (joined ss)) all,
         )
 
     -- constants and locals are known
-    pub push_sim : (o : ℕ) (n : Value) (rest : Nodes) → FitsFrame M E gl None (F (basic o (Const n) rest)) w → FitsFrames M E gl W.result r Fs ws → WorldFits M gl g → After M M' E gl W (tgt M W C ex e ss ws r l ops kd Ls Fs g co (basic o (Const n) rest)) (next (config (frame ix r cl l (label (n ∷ ops) rest en kd ∷ Ls) ∷ Fs) g co))
+    pub push_sim : (o : ℕ) (n : Value) (rest : Nodes) → FitsFrame M E gl None (F (basic o (Const n) rest)) w → FitsFrames M E gl W.result r Fs ws → WorldFits M gl g → Comes M M' E gl W (tgt M W C ex e ss ws r l ops kd Ls Fs g co (basic o (Const n) rest)) (next (config (frame ix r cl l (label (n ∷ ops) rest en kd ∷ Ls) ∷ Fs) g co))
     push_sim o n rest f fs wf =
         let h = f.labels in
         (wit C ex ((Known n ∷ e) ∷ ss) ∷ ws, (wf, (refit l (label (n ∷ ops) rest en kd ∷ Ls) ex ((Known n ∷ e) ∷ ss) None cl f refl refl ((refl, h.0), tt, h.2.3, h.3, h.4), fs)), weaken M' (one_step M' _ _ refl) (omega arith) (omega (arith, f.small)))
 
-    copied_sim : (o x : ℕ) (v : Value) (rest : Nodes) → slice_get l x ≡ Some v → FitsFrame M E gl None (F (basic o (LocalGet x) rest)) w → FitsFrames M E gl W.result r Fs ws → WorldFits M gl g → After M M' E gl W (tgt M W C ex e ss ws r l ops kd Ls Fs g co (basic o (LocalGet x) rest)) (next (config (frame ix r cl l (label (v ∷ ops) rest en kd ∷ Ls) ∷ Fs) g co))
+    copied_sim : (o x : ℕ) (v : Value) (rest : Nodes) → slice_get l x ≡ Some v → FitsFrame M E gl None (F (basic o (LocalGet x) rest)) w → FitsFrames M E gl W.result r Fs ws → WorldFits M gl g → Comes M M' E gl W (tgt M W C ex e ss ws r l ops kd Ls Fs g co (basic o (LocalGet x) rest)) (next (config (frame ix r cl l (label (v ∷ ops) rest en kd ∷ Ls) ∷ Fs) g co))
     copied_sim o x v rest at f fs wf =
         let h = f.labels in
         let own : slice_get C.locals x ≡ Some (type_of v) = ap (λ q. slice_get q x) (sym f.size) ∙ types_get l x v at in
@@ -209,14 +209,14 @@ module _ (M M' : Engine) (E : ℕ) (gl : List ValType) (W : Wrap) where
           subst (λ z. To M' 1 E (st X (l ++ ex) ops (basic 0 (LocalGet x) (keep C (option_map (λ t. Copied t x) z) es (rewrite C ls (pushed (option_map (λ t. Copied t x) z) es) rest))) g0 co) (st X (l ++ ex) (v ∷ ops) (rewrite C ls (p ∷ es) rest) g0 co)) (sym own) (weaken M' s1 (omega arith) (omega (arith, f.small))),
         )
 
-    pub get_sim : (o x : ℕ) (rest : Nodes) → FitsFrame M E gl None (F (basic o (LocalGet x) rest)) w → FitsFrames M E gl W.result r Fs ws → WorldFits M gl g → After M M' E gl W (tgt M W C ex e ss ws r l ops kd Ls Fs g co (basic o (LocalGet x) rest)) (does M (LocalGet x) (cut 0 ops) rest (F (basic o (LocalGet x) rest)) (label ops (basic o (LocalGet x) rest) en kd) Ls Fs g co)
+    pub get_sim : (o x : ℕ) (rest : Nodes) → FitsFrame M E gl None (F (basic o (LocalGet x) rest)) w → FitsFrames M E gl W.result r Fs ws → WorldFits M gl g → Comes M M' E gl W (tgt M W C ex e ss ws r l ops kd Ls Fs g co (basic o (LocalGet x) rest)) (does M (LocalGet x) (cut 0 ops) rest (F (basic o (LocalGet x) rest)) (label ops (basic o (LocalGet x) rest) en kd) Ls Fs g co)
     get_sim o x rest f fs wf = by_local (slice_get l x) refl
       where
-        by_local : (q : Option Value) → slice_get l x ≡ q → After M M' E gl W (tgt M W C ex e ss ws r l ops kd Ls Fs g co (basic o (LocalGet x) rest)) (affects M (with_some q (λ v. gives g l (v ∷ []))) ops rest (F (basic o (LocalGet x) rest)) (label ops (basic o (LocalGet x) rest) en kd) Ls Fs g co)
+        by_local : (q : Option Value) → slice_get l x ≡ q → Comes M M' E gl W (tgt M W C ex e ss ws r l ops kd Ls Fs g co (basic o (LocalGet x) rest)) (affects M (with_some q (λ v. gives g l (v ∷ []))) ops rest (F (basic o (LocalGet x) rest)) (label ops (basic o (LocalGet x) rest) en kd) Ls Fs g co)
         by_local None at = tt
         by_local (Some v) at = copied_sim o x v rest at f fs wf
 
-    pub block_sim : (o : ℕ) (a : Option ValType) (inner : Nodes) (en' : ℕ) (rest : Nodes) → FitsFrame M E gl None (F (block o a inner en' rest)) w → FitsFrames M E gl W.result r Fs ws → WorldFits M gl g → After M M' E gl W (tgt M W C ex e ss ws r l ops kd Ls Fs g co (block o a inner en' rest)) (next (config (frame ix r cl l (label [] inner en' (leaves a) ∷ label ops rest en kd ∷ Ls) ∷ Fs) g co))
+    pub block_sim : (o : ℕ) (a : Option ValType) (inner : Nodes) (en' : ℕ) (rest : Nodes) → FitsFrame M E gl None (F (block o a inner en' rest)) w → FitsFrames M E gl W.result r Fs ws → WorldFits M gl g → Comes M M' E gl W (tgt M W C ex e ss ws r l ops kd Ls Fs g co (block o a inner en' rest)) (next (config (frame ix r cl l (label [] inner en' (leaves a) ∷ label ops rest en kd ∷ Ls) ∷ Fs) g co))
     block_sim o a inner en' rest f fs wf =
         let h = f.labels in
         let u = under e in
@@ -238,7 +238,7 @@ module _ (M M' : Engine) (E : ℕ) (gl : List ValType) (W : Wrap) where
           subst (λ z. To M' 1 E (st X (l ++ ex) ops (spill C (λ x. true) es (code z)) g0 co) (st Y (l ++ ex1) [] inner_ g0 co)) (sym sp) (weaken M' (seq M' s1.4 s2) (omega arith) (omega (arith, f.small, few))),
         )
 
-    pub loop_sim : (o : ℕ) (a : Option ValType) (inner : Nodes) (en' : ℕ) (rest : Nodes) → FitsFrame M E gl None (F (loop o a inner en' rest)) w → FitsFrames M E gl W.result r Fs ws → WorldFits M gl g → After M M' E gl W (tgt M W C ex e ss ws r l ops kd Ls Fs g co (loop o a inner en' rest)) (next (config (frame ix r cl l (label [] inner en' (again o a inner en') ∷ label ops rest en kd ∷ Ls) ∷ Fs) g co))
+    pub loop_sim : (o : ℕ) (a : Option ValType) (inner : Nodes) (en' : ℕ) (rest : Nodes) → FitsFrame M E gl None (F (loop o a inner en' rest)) w → FitsFrames M E gl W.result r Fs ws → WorldFits M gl g → Comes M M' E gl W (tgt M W C ex e ss ws r l ops kd Ls Fs g co (loop o a inner en' rest)) (next (config (frame ix r cl l (label [] inner en' (again o a inner en') ∷ label ops rest en kd ∷ Ls) ∷ Fs) g co))
     loop_sim o a inner en' rest f fs wf =
         let h = f.labels in
         let u = under e in
@@ -294,7 +294,7 @@ module _ (M M' : Engine) (E : ℕ) (gl : List ValType) (W : Wrap) where
     abbrev wv : Wit
     wv = wit C ex ((e1 ∷ e) ∷ ss)
 
-    set_written : (o x : ℕ) (old : Value) (rest : Nodes) → slice_get l x ≡ Some old → type_of old ≡ type_of v → FitsFrame M E gl None (Fv (basic o (LocalSet x) rest)) wv → FitsFrames M E gl W.result r Fs ws → WorldFits M gl g → After M M' E gl W (tgt M W C ex (e1 ∷ e) ss ws r l (v ∷ ops) kd Ls Fs g co (basic o (LocalSet x) rest)) (next (config (frame ix r cl (slice_set l x v) (label ops rest en kd ∷ Ls) ∷ Fs) g co))
+    set_written : (o x : ℕ) (old : Value) (rest : Nodes) → slice_get l x ≡ Some old → type_of old ≡ type_of v → FitsFrame M E gl None (Fv (basic o (LocalSet x) rest)) wv → FitsFrames M E gl W.result r Fs ws → WorldFits M gl g → Comes M M' E gl W (tgt M W C ex (e1 ∷ e) ss ws r l (v ∷ ops) kd Ls Fs g co (basic o (LocalSet x) rest)) (next (config (frame ix r cl (slice_set l x v) (label ops rest en kd ∷ Ls) ∷ Fs) g co))
     set_written o x old rest at ty f fs wf =
         let h = f.labels in
         let js = joined ss in
@@ -315,7 +315,7 @@ module _ (M M' : Engine) (E : ℕ) (gl : List ValType) (W : Wrap) where
           subst (λ z. To M' 1 E (st Xv (l ++ ex) (v ∷ ops) (spill C these esv (basic 0 (LocalSet x) (rewrite C dv z rest))) gv co) (st Xv (l' ++ ex1) ops k1 gv co)) (sym sp) (weaken M' (seq M' s1.4 s2) (omega arith) (omega (arith, f.small, few))),
         )
 
-    tee_written : (o x : ℕ) (old : Value) (rest : Nodes) → slice_get l x ≡ Some old → type_of old ≡ type_of v → FitsFrame M E gl None (Fv (basic o (LocalTee x) rest)) wv → FitsFrames M E gl W.result r Fs ws → WorldFits M gl g → After M M' E gl W (tgt M W C ex (e1 ∷ e) ss ws r l (v ∷ ops) kd Ls Fs g co (basic o (LocalTee x) rest)) (next (config (frame ix r cl (slice_set l x v) (label (v ∷ ops) rest en kd ∷ Ls) ∷ Fs) g co))
+    tee_written : (o x : ℕ) (old : Value) (rest : Nodes) → slice_get l x ≡ Some old → type_of old ≡ type_of v → FitsFrame M E gl None (Fv (basic o (LocalTee x) rest)) wv → FitsFrames M E gl W.result r Fs ws → WorldFits M gl g → Comes M M' E gl W (tgt M W C ex (e1 ∷ e) ss ws r l (v ∷ ops) kd Ls Fs g co (basic o (LocalTee x) rest)) (next (config (frame ix r cl (slice_set l x v) (label (v ∷ ops) rest en kd ∷ Ls) ∷ Fs) g co))
     tee_written o x old rest at ty f fs wf =
         let h = f.labels in
         let js = joined ss in
@@ -347,7 +347,7 @@ module _ (M M' : Engine) (E : ℕ) (gl : List ValType) (W : Wrap) where
     -- an arm is entered
     arm_to : (a : Option ValType) (arm : Nodes) (n : ℕ) → v ≡ values.I32 n → (o : ℕ) (x : Nodes) (ea : Option ℕ) (y : Nodes) (en' : ℕ) (rest : Nodes) (en2 : ℕ) → FitsFrame M E gl None (Fv (choose o a x ea y en' rest)) wv → FitsFrames M E gl W.result r Fs ws → WorldFits M gl g → Room C (under esv) arm
         → ((ex1 : List Value) (left : List Place) (k : Nodes) → To M' 1 1 (st Xv (l ++ ex1) (v ∷ ops) (choose 0 a (rewrite C (suc dv) left x) (option_map (λ at. 0) ea) (rewrite C (suc dv) left y) 0 k) gv co) (st (record { idx = Xv.idx; result = Xv.result; kind = leaves a; below = label ops k 0 Xv.kind ∷ Xv.below; frames = Xv.frames }) (l ++ ex1) [] (rewrite C (suc dv) left arm) gv co))
-        → After M M' E gl W (tgt M W C ex (e1 ∷ e) ss ws r l (v ∷ ops) kd Ls Fs g co (choose o a x ea y en' rest)) (next (config (frame ix r cl l (label [] arm en2 (leaves a) ∷ label ops rest en kd ∷ Ls) ∷ Fs) g co))
+        → Comes M M' E gl W (tgt M W C ex (e1 ∷ e) ss ws r l (v ∷ ops) kd Ls Fs g co (choose o a x ea y en' rest)) (next (config (frame ix r cl l (label [] arm en2 (leaves a) ∷ label ops rest en kd ∷ Ls) ∷ Fs) g co))
     arm_to a arm n is o x ea y en' rest en2 f fs wf rm enters =
         let h = f.labels in
         let js = joined ss in
@@ -370,33 +370,33 @@ module _ (M M' : Engine) (E : ℕ) (gl : List ValType) (W : Wrap) where
           subst (λ z. To M' 1 E (st Xv (l ++ ex) (v ∷ ops) (spill C (λ x. true) esv (code z)) gv co) (st Y (l ++ ex1) [] (rewrite C (suc dv) (u ++ js) arm) gv co)) (sym sp) (weaken M' (seq M' s1.4 s2) (omega arith) (omega (arith, f.small, few))),
         )
 
-  pub set_sim : (C : Ctx) (ex : List Value) (e : List Place) (ss : List (List Place)) (ws : List Wit) (ix cl : ℕ) (r : Option ValType) (l ops : List Value) (en : ℕ) (kd : Kind) (Ls : List Label) (Fs : List Frame) (g : World) (co : List CollectorCall) (o x : ℕ) (rest : Nodes) → FitsFrame M E gl None (frame ix r cl l (label ops (basic o (LocalSet x) rest) en kd ∷ Ls)) (wit C ex (e ∷ ss)) → FitsFrames M E gl W.result r Fs ws → WorldFits M gl g → After M M' E gl W (tgt M W C ex e ss ws r l ops kd Ls Fs g co (basic o (LocalSet x) rest)) (does M (LocalSet x) (cut 1 ops) rest (frame ix r cl l (label ops (basic o (LocalSet x) rest) en kd ∷ Ls)) (label ops (basic o (LocalSet x) rest) en kd) Ls Fs g co)
+  pub set_sim : (C : Ctx) (ex : List Value) (e : List Place) (ss : List (List Place)) (ws : List Wit) (ix cl : ℕ) (r : Option ValType) (l ops : List Value) (en : ℕ) (kd : Kind) (Ls : List Label) (Fs : List Frame) (g : World) (co : List CollectorCall) (o x : ℕ) (rest : Nodes) → FitsFrame M E gl None (frame ix r cl l (label ops (basic o (LocalSet x) rest) en kd ∷ Ls)) (wit C ex (e ∷ ss)) → FitsFrames M E gl W.result r Fs ws → WorldFits M gl g → Comes M M' E gl W (tgt M W C ex e ss ws r l ops kd Ls Fs g co (basic o (LocalSet x) rest)) (does M (LocalSet x) (cut 1 ops) rest (frame ix r cl l (label ops (basic o (LocalSet x) rest) en kd ∷ Ls)) (label ops (basic o (LocalSet x) rest) en kd) Ls Fs g co)
   set_sim C ex e ss ws ix cl r l [] en kd Ls Fs g co o x rest f fs wf = tt
   set_sim C ex [] ss ws ix cl r l (v ∷ ops) en kd Ls Fs g co o x rest f fs wf = absurd f.labels.0
   set_sim C ex (e1 ∷ e) ss ws ix cl r l (v ∷ ops) en kd Ls Fs g co o x rest f fs wf = by_local (slice_get l x) refl
     where
-      by_type : (old : Value) (q : Bool) → slice_get l x ≡ Some old → same_type (type_of old) (type_of v) ≡ q → After M M' E gl W (tgt M W C ex (e1 ∷ e) ss ws r l (v ∷ ops) kd Ls Fs g co (basic o (LocalSet x) rest)) (affects M (when q (gives g (slice_set l x v) [])) ops rest (frame ix r cl l (label (v ∷ ops) (basic o (LocalSet x) rest) en kd ∷ Ls)) (label (v ∷ ops) (basic o (LocalSet x) rest) en kd) Ls Fs g co)
+      by_type : (old : Value) (q : Bool) → slice_get l x ≡ Some old → same_type (type_of old) (type_of v) ≡ q → Comes M M' E gl W (tgt M W C ex (e1 ∷ e) ss ws r l (v ∷ ops) kd Ls Fs g co (basic o (LocalSet x) rest)) (affects M (when q (gives g (slice_set l x v) [])) ops rest (frame ix r cl l (label (v ∷ ops) (basic o (LocalSet x) rest) en kd ∷ Ls)) (label (v ∷ ops) (basic o (LocalSet x) rest) en kd) Ls Fs g co)
       by_type old false at q = tt
       by_type old true at q = set_written C ex e1 e ss ws ix cl r l v ops en kd Ls Fs g co o x old rest at (same_type_is (type_of old) (type_of v) q) f fs wf
 
-      by_local : (q : Option Value) → slice_get l x ≡ q → After M M' E gl W (tgt M W C ex (e1 ∷ e) ss ws r l (v ∷ ops) kd Ls Fs g co (basic o (LocalSet x) rest)) (affects M (over q v (gives g (slice_set l x v) [])) ops rest (frame ix r cl l (label (v ∷ ops) (basic o (LocalSet x) rest) en kd ∷ Ls)) (label (v ∷ ops) (basic o (LocalSet x) rest) en kd) Ls Fs g co)
+      by_local : (q : Option Value) → slice_get l x ≡ q → Comes M M' E gl W (tgt M W C ex (e1 ∷ e) ss ws r l (v ∷ ops) kd Ls Fs g co (basic o (LocalSet x) rest)) (affects M (over q v (gives g (slice_set l x v) [])) ops rest (frame ix r cl l (label (v ∷ ops) (basic o (LocalSet x) rest) en kd ∷ Ls)) (label (v ∷ ops) (basic o (LocalSet x) rest) en kd) Ls Fs g co)
       by_local None at = tt
       by_local (Some old) at = by_type old (same_type (type_of old) (type_of v)) at refl
 
-  pub tee_sim : (C : Ctx) (ex : List Value) (e : List Place) (ss : List (List Place)) (ws : List Wit) (ix cl : ℕ) (r : Option ValType) (l ops : List Value) (en : ℕ) (kd : Kind) (Ls : List Label) (Fs : List Frame) (g : World) (co : List CollectorCall) (o x : ℕ) (rest : Nodes) → FitsFrame M E gl None (frame ix r cl l (label ops (basic o (LocalTee x) rest) en kd ∷ Ls)) (wit C ex (e ∷ ss)) → FitsFrames M E gl W.result r Fs ws → WorldFits M gl g → After M M' E gl W (tgt M W C ex e ss ws r l ops kd Ls Fs g co (basic o (LocalTee x) rest)) (does M (LocalTee x) (cut 1 ops) rest (frame ix r cl l (label ops (basic o (LocalTee x) rest) en kd ∷ Ls)) (label ops (basic o (LocalTee x) rest) en kd) Ls Fs g co)
+  pub tee_sim : (C : Ctx) (ex : List Value) (e : List Place) (ss : List (List Place)) (ws : List Wit) (ix cl : ℕ) (r : Option ValType) (l ops : List Value) (en : ℕ) (kd : Kind) (Ls : List Label) (Fs : List Frame) (g : World) (co : List CollectorCall) (o x : ℕ) (rest : Nodes) → FitsFrame M E gl None (frame ix r cl l (label ops (basic o (LocalTee x) rest) en kd ∷ Ls)) (wit C ex (e ∷ ss)) → FitsFrames M E gl W.result r Fs ws → WorldFits M gl g → Comes M M' E gl W (tgt M W C ex e ss ws r l ops kd Ls Fs g co (basic o (LocalTee x) rest)) (does M (LocalTee x) (cut 1 ops) rest (frame ix r cl l (label ops (basic o (LocalTee x) rest) en kd ∷ Ls)) (label ops (basic o (LocalTee x) rest) en kd) Ls Fs g co)
   tee_sim C ex e ss ws ix cl r l [] en kd Ls Fs g co o x rest f fs wf = tt
   tee_sim C ex [] ss ws ix cl r l (v ∷ ops) en kd Ls Fs g co o x rest f fs wf = absurd f.labels.0
   tee_sim C ex (e1 ∷ e) ss ws ix cl r l (v ∷ ops) en kd Ls Fs g co o x rest f fs wf = by_local (slice_get l x) refl
     where
-      by_type : (old : Value) (q : Bool) → slice_get l x ≡ Some old → same_type (type_of old) (type_of v) ≡ q → After M M' E gl W (tgt M W C ex (e1 ∷ e) ss ws r l (v ∷ ops) kd Ls Fs g co (basic o (LocalTee x) rest)) (affects M (when q (gives g (slice_set l x v) (v ∷ []))) ops rest (frame ix r cl l (label (v ∷ ops) (basic o (LocalTee x) rest) en kd ∷ Ls)) (label (v ∷ ops) (basic o (LocalTee x) rest) en kd) Ls Fs g co)
+      by_type : (old : Value) (q : Bool) → slice_get l x ≡ Some old → same_type (type_of old) (type_of v) ≡ q → Comes M M' E gl W (tgt M W C ex (e1 ∷ e) ss ws r l (v ∷ ops) kd Ls Fs g co (basic o (LocalTee x) rest)) (affects M (when q (gives g (slice_set l x v) (v ∷ []))) ops rest (frame ix r cl l (label (v ∷ ops) (basic o (LocalTee x) rest) en kd ∷ Ls)) (label (v ∷ ops) (basic o (LocalTee x) rest) en kd) Ls Fs g co)
       by_type old false at q = tt
       by_type old true at q = tee_written C ex e1 e ss ws ix cl r l v ops en kd Ls Fs g co o x old rest at (same_type_is (type_of old) (type_of v) q) f fs wf
 
-      by_local : (q : Option Value) → slice_get l x ≡ q → After M M' E gl W (tgt M W C ex (e1 ∷ e) ss ws r l (v ∷ ops) kd Ls Fs g co (basic o (LocalTee x) rest)) (affects M (over q v (gives g (slice_set l x v) (v ∷ []))) ops rest (frame ix r cl l (label (v ∷ ops) (basic o (LocalTee x) rest) en kd ∷ Ls)) (label (v ∷ ops) (basic o (LocalTee x) rest) en kd) Ls Fs g co)
+      by_local : (q : Option Value) → slice_get l x ≡ q → Comes M M' E gl W (tgt M W C ex (e1 ∷ e) ss ws r l (v ∷ ops) kd Ls Fs g co (basic o (LocalTee x) rest)) (affects M (over q v (gives g (slice_set l x v) (v ∷ []))) ops rest (frame ix r cl l (label (v ∷ ops) (basic o (LocalTee x) rest) en kd ∷ Ls)) (label (v ∷ ops) (basic o (LocalTee x) rest) en kd) Ls Fs g co)
       by_local None at = tt
       by_local (Some old) at = by_type old (same_type (type_of old) (type_of v)) at refl
 
-  pub if_sim : (C : Ctx) (ex : List Value) (e : List Place) (ss : List (List Place)) (ws : List Wit) (ix cl : ℕ) (r : Option ValType) (l ops : List Value) (en : ℕ) (kd : Kind) (Ls : List Label) (Fs : List Frame) (g : World) (co : List CollectorCall) (o : ℕ) (a : Option ValType) (x : Nodes) (ea : Option ℕ) (y : Nodes) (en' : ℕ) (rest : Nodes) → FitsFrame M E gl None (frame ix r cl l (label ops (choose o a x ea y en' rest) en kd ∷ Ls)) (wit C ex (e ∷ ss)) → FitsFrames M E gl W.result r Fs ws → WorldFits M gl g → After M M' E gl W (tgt M W C ex e ss ws r l ops kd Ls Fs g co (choose o a x ea y en' rest)) (chooses M ops a x ea y en' rest (frame ix r cl l (label ops (choose o a x ea y en' rest) en kd ∷ Ls)) (label ops (choose o a x ea y en' rest) en kd) Ls Fs g co)
+  pub if_sim : (C : Ctx) (ex : List Value) (e : List Place) (ss : List (List Place)) (ws : List Wit) (ix cl : ℕ) (r : Option ValType) (l ops : List Value) (en : ℕ) (kd : Kind) (Ls : List Label) (Fs : List Frame) (g : World) (co : List CollectorCall) (o : ℕ) (a : Option ValType) (x : Nodes) (ea : Option ℕ) (y : Nodes) (en' : ℕ) (rest : Nodes) → FitsFrame M E gl None (frame ix r cl l (label ops (choose o a x ea y en' rest) en kd ∷ Ls)) (wit C ex (e ∷ ss)) → FitsFrames M E gl W.result r Fs ws → WorldFits M gl g → Comes M M' E gl W (tgt M W C ex e ss ws r l ops kd Ls Fs g co (choose o a x ea y en' rest)) (chooses M ops a x ea y en' rest (frame ix r cl l (label ops (choose o a x ea y en' rest) en kd ∷ Ls)) (label ops (choose o a x ea y en' rest) en kd) Ls Fs g co)
   if_sim C ex e ss ws ix cl r l [] en kd Ls Fs g co o a x ea y en' rest f fs wf = tt
   if_sim C ex e ss ws ix cl r l (values.I64 v ∷ ops) en kd Ls Fs g co o a x ea y en' rest f fs wf = tt
   if_sim C ex [] ss ws ix cl r l (values.I32 v ∷ ops) en kd Ls Fs g co o a x ea y en' rest f fs wf = absurd f.labels.0

@@ -1,6 +1,6 @@
 -- The whole step.
 use Rattle.wasm_syntax.specs.Numbers.{type_of}
-use Rattle.std.proofs.Common.{◌≡◌, ℕ, suc, ◌≤◌, List, [], ◌∷◌, ◌++◌, length, Option, Some, None, Bool, true, false, refl, sym, ap, ◌∙◌, subst, subst₂, arith, inl, inr, slice_get, option_map, unwrap_or, slice_set, ◌+◌, ap₂}
+use Rattle.std.proofs.Common.{◌≡◌, ℕ, suc, ◌≤◌, List, [], ◌∷◌, ◌++◌, length, Option, Some, None, Bool, true, false, refl, sym, ap, ◌∙◌, subst, arith, inl, inr, slice_get, option_map, unwrap_or, slice_set, ◌+◌, ap₂}
 use Rattle.wasm_syntax.specs.declared.value.ValType.{ValType}
 use Rattle.wasm_syntax.specs.declared.value.Value.{Value}
 use Rattle.wasm_syntax.specs.declared.value.Value.TheVariants as values
@@ -11,7 +11,7 @@ use Rattle.wasm_syntax.specs.Module.{Function, function_at, type_at, same_functy
 use Rattle.wasm_syntax.specs.Host.{World}
 use Rattle.wasm_syntax.specs.declared.host.CollectorCall.{CollectorCall}
 use Rattle.wasm_syntax.specs.Effect.{Effect, gives, fails, unfit, effect, takes}
-use Rattle.wasm_syntax.specs.Machine.{Kind, Label, Frame, Config, label, frame, config, Engine, traps, Cut, short, parts, cut, result_of, function_type, calls, calls_if, calls_entry, calls_typed, calls_indirect, jumps, affects, does, runs, in_frame, steps, step, top}
+use Rattle.wasm_syntax.specs.Machine.{Kind, Label, Frame, Config, label, frame, config, Engine, traps, Cut, short, parts, cut, result_of, function_type, calls, calls_if, calls_entry, calls_typed, calls_indirect, jumps, affects, does, runs, in_frame, steps, step, top, Stepped, next, ends, no_reply, bad_reply, stuck}
 use Rattle.rewrite_bodies.specs.calls.Slots.{Place, Spilled, Ctx, less, grown, result_type, Landing, place_type, offset_at, pushed, local_written, freed_at, result_place, after_plain}
 use Rattle.rewrite_bodies.specs.calls.Rewrite.{unwind_kind, tested, guarded, indirect_code, rewrite, checked, free_at}
 use Rattle.rewrite_bodies.specs.calls.Pieces.{const, keep, set}
@@ -19,9 +19,9 @@ use Rattle.rewrite_bodies.specs.calls.Guards.{can_trap, kind, entry_label, type_
 use Rattle.rewrite_bodies.specs.calls.Steps.{To, Shell, st}
 use Rattle.rewrite_bodies.proofs.Run.{seq, weaken, push_to}
 use Rattle.rewrite_bodies.specs.calls.Agreement.{joined, Wit, FitsIn, Has, Room_call, Room, WorldFits, FitsFrame, FitsFrames, FitsConfig, Wrap, flagged, image}
-use Rattle.rewrite_bodies.specs.inner.Promises.{kind_of, verdict}
+use Rattle.rewrite_bodies.specs.inner.Promises.{kind_of, verdict, Comes}
 use Rattle.rewrite_bodies.proofs.Parts.{Rel, framed, match_of, place_of, fits_put}
-use Rattle.rewrite_bodies.specs.calls.Standing.{After, Stands}
+use Rattle.rewrite_bodies.specs.calls.Standing.{Stands, After}
 use Rattle.rewrite_bodies.proofs.Sim.{refit, len_of, shell, tgt, wit, armed, if_up_to, verdict_to, kind_to, usual_gives, push_sim, get_sim, set_sim, tee_sim, block_sim, loop_sim, if_sim, room_height}
 use Rattle.rewrite_bodies.proofs.Stays.{Stays, Usual, stays}
 use Rattle.rewrite_bodies.proofs.Control.{end_sim, br_node, br_if_node, return_node, table_node}
@@ -33,6 +33,10 @@ use Rattle.rewrite_bodies.proofs.Calls.{trap_landed, trap_from, call_node, same_
 use Rattle.rewrite_bodies.specs.calls.Offsets.{SmallOffset}
 use Rattle.wasm_syntax.proofs.Types.{same_functype_refl, same_type_refl}
 use Rattle.rewrite_bodies.proofs.Risks.{Treated, gets, sets, tees, constant, spills, treated}
+use Rattle.rewrite_bodies.specs.calls.Facts.{needs, exposed_in, frail}
+use Rattle.rewrite_bodies.specs.calls.Known.{KnownLabels, nodes_in}
+use Rattle.rewrite_bodies.proofs.FactLaws.{Safe, safe_here}
+use Rattle.rewrite_bodies.proofs.KnownSteps.{KnownStepped, step_known}
 
 module _ (M M' : Engine) (E : ℕ) (gl : List ValType) (W : Wrap) (S : Stands M M' E gl) where
   -- ---- an indirect call
@@ -63,7 +67,7 @@ module _ (M M' : Engine) (E : ℕ) (gl : List ValType) (W : Wrap) (S : Stands M 
       label_is : (g' : ℕ) (u : FuncType) (b : Bool) → type_at M.program.module_ g' ≡ Some u → same_functype u type ≡ b → unwrap_or (option_map (entry_label M.program.module_ t) (Some (Some g'))) 1 ≡ type_label b
       label_is g' u b tu sb = rw (ty, tu, sb) refl
 
-      by_function : (g' : ℕ) (o : Option Function) → slice_get g.table n ≡ Some (Some g') → type_at M.program.module_ g' ≡ Some type → function_at M.program g' ≡ o → After M M' E gl W (TI (Some type)) (calls M o g' ops at rest FI LI Ls Fs g co)
+      by_function : (g' : ℕ) (o : Option Function) → slice_get g.table n ≡ Some (Some g') → type_at M.program.module_ g' ≡ Some type → function_at M.program g' ≡ o → Comes M M' E gl W (TI (Some type)) (calls M o g' ops at rest FI LI Ls Fs g co)
       by_function g' None tq tu at_ = tt
       by_function g' (Some fn) tq tu at_ =
           let ft = S.type_is g' fn at_ in
@@ -73,30 +77,30 @@ module _ (M M' : Engine) (E : ℕ) (gl : List ValType) (W : Wrap) (S : Stands M 
           some_same : {a b : FuncType} → Some a ≡ Some b → a ≡ b
           some_same {a} e = ap (λ o. unwrap_or o a) e
 
-      by_type : (g' : ℕ) (u : FuncType) (b : Bool) → slice_get g.table n ≡ Some (Some g') → type_at M.program.module_ g' ≡ Some u → same_functype u type ≡ b → After M M' E gl W (TI (Some type)) (calls_if M (Some b) g' ops at rest FI LI Ls Fs g co)
+      by_type : (g' : ℕ) (u : FuncType) (b : Bool) → slice_get g.table n ≡ Some (Some g') → type_at M.program.module_ g' ≡ Some u → same_functype u type ≡ b → Comes M M' E gl W (TI (Some type)) (calls_if M (Some b) g' ops at rest FI LI Ls Fs g co)
       by_type g' u false tq tu sb = entry_trap M M' E gl W S C ex e1 e ss ws ix cl r l n ops en kd Ls Fs g co at t rest f fs wf shallow type (Some (Some g')) 3 6 has (tab (Some (Some g')) tq) (label_is g' u false tu sb) (inr (inr (inr (refl, refl))))
       by_type g' u true tq tu sb = by_function g' (function_at M.program g') tq (tu ∙ ap Some (same_functype-same u type sb)) refl
 
-      by_typed : (g' : ℕ) (o : Option FuncType) → slice_get g.table n ≡ Some (Some g') → type_at M.program.module_ g' ≡ o → After M M' E gl W (TI (Some type)) (calls_if M (option_map (λ u. same_functype u type) o) g' ops at rest FI LI Ls Fs g co)
+      by_typed : (g' : ℕ) (o : Option FuncType) → slice_get g.table n ≡ Some (Some g') → type_at M.program.module_ g' ≡ o → Comes M M' E gl W (TI (Some type)) (calls_if M (option_map (λ u. same_functype u type) o) g' ops at rest FI LI Ls Fs g co)
       by_typed g' None tq tu = tt
       by_typed g' (Some u) tq tu = by_type g' u (same_functype u type) tq tu refl
 
-      by_entry : (q : Option (Option ℕ)) → slice_get g.table n ≡ q → After M M' E gl W (TI (Some type)) (calls_entry M q type ops at rest FI LI Ls Fs g co)
+      by_entry : (q : Option (Option ℕ)) → slice_get g.table n ≡ q → Comes M M' E gl W (TI (Some type)) (calls_entry M q type ops at rest FI LI Ls Fs g co)
       by_entry None tq = entry_trap M M' E gl W S C ex e1 e ss ws ix cl r l n ops en kd Ls Fs g co at t rest f fs wf shallow type None 1 4 has (tab None tq) refl (inr (inl (refl, refl)))
       by_entry (Some None) tq = entry_trap M M' E gl W S C ex e1 e ss ws ix cl r l n ops en kd Ls Fs g co at t rest f fs wf shallow type (Some None) 2 5 has (tab (Some None) tq) refl (inr (inr (inl (refl, refl))))
       by_entry (Some (Some g')) tq = by_typed g' (type_at M.program.module_ g') tq refl
 
-    indirect_in : (ty : Option FuncType) → slice_get M.program.module_.types t ≡ ty → Has t C.helpers × Room_call C ty esi (λ es'. Room C es' rest) → After M M' E gl W (TI ty) (calls_typed M ty (slice_get g.table n) ops at rest FI LI Ls Fs g co)
+    indirect_in : (ty : Option FuncType) → slice_get M.program.module_.types t ≡ ty → Has t C.helpers × Room_call C ty esi (λ es'. Room C es' rest) → Comes M M' E gl W (TI ty) (calls_typed M ty (slice_get g.table n) ops at rest FI LI Ls Fs g co)
     indirect_in None ty rm = tt
     indirect_in (Some type) ty rm = by_entry type ty rm.0 rm.1 (slice_get g.table n) refl
 
-    indirect_here : After M M' E gl W (tgt M W C ex (e1 ∷ e) ss ws r l (values.I32 n ∷ ops) kd Ls Fs g co (jump at (CallIndirect t) rest)) (calls_typed M (slice_get M.program.module_.types t) (slice_get g.table n) ops at rest FI LI Ls Fs g co)
+    indirect_here : Comes M M' E gl W (tgt M W C ex (e1 ∷ e) ss ws r l (values.I32 n ∷ ops) kd Ls Fs g co (jump at (CallIndirect t) rest)) (calls_typed M (slice_get M.program.module_.types t) (slice_get g.table n) ops at rest FI LI Ls Fs g co)
     indirect_here =
         let same : slice_get C.source.types t ≡ slice_get M.program.module_.types t = ap (λ z. slice_get z.types t) f.funcs in
-        subst (λ z. After M M' E gl W (TI z) (calls_typed M (slice_get M.program.module_.types t) (slice_get g.table n) ops at rest FI LI Ls Fs g co)) (sym same)
+        subst (λ z. Comes M M' E gl W (TI z) (calls_typed M (slice_get M.program.module_.types t) (slice_get g.table n) ops at rest FI LI Ls Fs g co)) (sym same)
         (indirect_in (slice_get M.program.module_.types t) refl (subst (λ z. Has t C.helpers × Room_call C z esi (λ es'. Room C es' rest)) same f.labels.2.1))
 
-  indirect_node : (C : Ctx) (ex : List Value) (e : List Place) (ss : List (List Place)) (ws : List Wit) (ix cl : ℕ) (r : Option ValType) (l ops : List Value) (en : ℕ) (kd : Kind) (Ls : List Label) (Fs : List Frame) (g : World) (co : List CollectorCall) (at t : ℕ) (rest : Nodes) → FitsFrame M E gl None (frame ix r cl l (label ops (jump at (CallIndirect t) rest) en kd ∷ Ls)) (wit C ex (e ∷ ss)) → FitsFrames M E gl W.result r Fs ws → WorldFits M gl g → suc (length Fs) ≤ M.depth → After M M' E gl W (tgt M W C ex e ss ws r l ops kd Ls Fs g co (jump at (CallIndirect t) rest)) (calls_indirect M t ops at rest (frame ix r cl l (label ops (jump at (CallIndirect t) rest) en kd ∷ Ls)) (label ops (jump at (CallIndirect t) rest) en kd) Ls Fs g co)
+  indirect_node : (C : Ctx) (ex : List Value) (e : List Place) (ss : List (List Place)) (ws : List Wit) (ix cl : ℕ) (r : Option ValType) (l ops : List Value) (en : ℕ) (kd : Kind) (Ls : List Label) (Fs : List Frame) (g : World) (co : List CollectorCall) (at t : ℕ) (rest : Nodes) → FitsFrame M E gl None (frame ix r cl l (label ops (jump at (CallIndirect t) rest) en kd ∷ Ls)) (wit C ex (e ∷ ss)) → FitsFrames M E gl W.result r Fs ws → WorldFits M gl g → suc (length Fs) ≤ M.depth → Comes M M' E gl W (tgt M W C ex e ss ws r l ops kd Ls Fs g co (jump at (CallIndirect t) rest)) (calls_indirect M t ops at rest (frame ix r cl l (label ops (jump at (CallIndirect t) rest) en kd ∷ Ls)) (label ops (jump at (CallIndirect t) rest) en kd) Ls Fs g co)
   indirect_node C ex e ss ws ix cl r l [] en kd Ls Fs g co at t rest f fs wf sh = tt
   indirect_node C ex e ss ws ix cl r l (values.I64 n ∷ ops) en kd Ls Fs g co at t rest f fs wf sh = tt
   indirect_node C ex [] ss ws ix cl r l (values.I32 n ∷ ops) en kd Ls Fs g co at t rest f fs wf sh = absurd f.labels.0
@@ -114,7 +118,7 @@ module _ (M M' : Engine) (E : ℕ) (gl : List ValType) (W : Wrap) (S : Stands M 
     abbrev Before : Config
     Before = st (shell W C r kd Ls ss Fs ws) (l ++ slice_set ex (offset_at C) (values.I32 o)) (values.I32 1 ∷ (v ∷ ops)) (jump 0 (BrIf (suc (length Ls) + n)) k) (flagged M g (values.I32 0)) co
 
-    carried_trap : number_of Found C.landings ≡ Some n → To M' 1 30 t Before → After M M' E gl W t (traps (suc j) (config (frame ix r cl l (LC ∷ Ls) ∷ Fs) g co))
+    carried_trap : number_of Found C.landings ≡ Some n → To M' 1 30 t Before → Comes M M' E gl W t (traps (suc j) (config (frame ix r cl l (LC ∷ Ls) ∷ Fs) g co))
     carried_trap is pre =
         let h = f.labels in
         let low : length (e1 ∷ (e ++ joined ss)) ≤ C.slots = room_height C (e1 ∷ (e ++ joined ss)) (basic o i rest) h.2 in
@@ -124,10 +128,10 @@ module _ (M M' : Engine) (E : ℕ) (gl : List ValType) (W : Wrap) (S : Stands M 
         (λ ex2 hk. (all_in C l ex2 None (LC ∷ Ls) ((e1 ∷ e) ∷ ss) hk).1) (omega (arith, low)) (tell-all (LC ∷ Ls) co) pre
 
   landed_trap : (C : Ctx) (ex : List Value) (e : List Place) (ss : List (List Place)) (ws : List Wit) (ix cl : ℕ) (r : Option ValType) (l ops : List Value) (en : ℕ) (kd : Kind) (Ls : List Label) (Fs : List Frame) (g : World) (co : List CollectorCall) (o : ℕ) (i : Basic) (rest : Nodes) → FitsFrame M E gl None (frame ix r cl l (label ops (basic o i rest) en kd ∷ Ls)) (wit C ex (e ∷ ss)) → FitsFrames M E gl W.result r Fs ws → WorldFits M gl g
-      → (t : Config) (k : Nodes) (vs below : List Value) (j n : ℕ) → cut (takes i) ops ≡ parts vs below → effect i g l vs ≡ fails (suc j) → number_in C.landings (landing_of i (e ++ joined ss)) ≡ Some n → To M' 1 30 t (st (shell W C r kd Ls ss Fs ws) (l ++ slice_set ex (offset_at C) (values.I32 o)) (values.I32 1 ∷ ops) (jump 0 (BrIf (suc (length Ls) + n)) k) (flagged M g (values.I32 0)) co) → After M M' E gl W t (traps (suc j) (config (frame ix r cl l (label ops (basic o i rest) en kd ∷ Ls) ∷ Fs) g co))
+      → (t : Config) (k : Nodes) (vs below : List Value) (j n : ℕ) → cut (takes i) ops ≡ parts vs below → effect i g l vs ≡ fails (suc j) → number_in C.landings (landing_of i (e ++ joined ss)) ≡ Some n → To M' 1 30 t (st (shell W C r kd Ls ss Fs ws) (l ++ slice_set ex (offset_at C) (values.I32 o)) (values.I32 1 ∷ ops) (jump 0 (BrIf (suc (length Ls) + n)) k) (flagged M g (values.I32 0)) co) → Comes M M' E gl W t (traps (suc j) (config (frame ix r cl l (label ops (basic o i rest) en kd ∷ Ls) ∷ Fs) g co))
   landed_trap C ex e ss ws ix cl r l ops en kd Ls Fs g co o i rest f fs wf t k vs below j n c p is pre = by_kind (one_kind i) refl is
     where
-      by_places : (e : List Place) (ops : List Value) (k1 : ℕ) → FitsFrame M E gl None (frame ix r cl l (label ops (basic o i rest) en kd ∷ Ls)) (wit C ex (e ∷ ss)) → one_kind i ≡ Some k1 → cut (takes i) ops ≡ parts vs below → number_in C.landings (carrying (Some k1) (e ++ joined ss)) ≡ Some n → To M' 1 30 t (st (shell W C r kd Ls ss Fs ws) (l ++ slice_set ex (offset_at C) (values.I32 o)) (values.I32 1 ∷ ops) (jump 0 (BrIf (suc (length Ls) + n)) k) (flagged M g (values.I32 0)) co) → After M M' E gl W t (traps (suc j) (config (frame ix r cl l (label ops (basic o i rest) en kd ∷ Ls) ∷ Fs) g co))
+      by_places : (e : List Place) (ops : List Value) (k1 : ℕ) → FitsFrame M E gl None (frame ix r cl l (label ops (basic o i rest) en kd ∷ Ls)) (wit C ex (e ∷ ss)) → one_kind i ≡ Some k1 → cut (takes i) ops ≡ parts vs below → number_in C.landings (carrying (Some k1) (e ++ joined ss)) ≡ Some n → To M' 1 30 t (st (shell W C r kd Ls ss Fs ws) (l ++ slice_set ex (offset_at C) (values.I32 o)) (values.I32 1 ∷ ops) (jump 0 (BrIf (suc (length Ls) + n)) k) (flagged M g (values.I32 0)) co) → Comes M M' E gl W t (traps (suc j) (config (frame ix r cl l (label ops (basic o i rest) en kd ∷ Ls) ∷ Fs) g co))
       by_places [] [] k1 f one c is pre =
           let m = takes_one i k1 one in
           let z : cut (takes i) [] ≡ short = ap (λ m. cut m []) m.1 in
@@ -139,13 +143,13 @@ module _ (M M' : Engine) (E : ℕ) (gl : List ValType) (W : Wrap) (S : Stands M 
           let is' : number_of (Found C ex e1 e ss ws ix cl r l v ops en kd Ls Fs g co o i rest f fs wf t k j n) C.landings ≡ Some n = subst (λ z. number_in C.landings (carrying (Some z) ((e1 ∷ e) ++ joined ss)) ≡ Some n) (sym same) is in
           carried_trap C ex e1 e ss ws ix cl r l v ops en kd Ls Fs g co o i rest f fs wf t k j n is' pre
 
-      by_kind : (q : Option ℕ) → one_kind i ≡ q → number_in C.landings (carrying q (e ++ joined ss)) ≡ Some n → After M M' E gl W t (traps (suc j) (config (frame ix r cl l (label ops (basic o i rest) en kd ∷ Ls) ∷ Fs) g co))
+      by_kind : (q : Option ℕ) → one_kind i ≡ q → number_in C.landings (carrying q (e ++ joined ss)) ≡ Some n → Comes M M' E gl W t (traps (suc j) (config (frame ix r cl l (label ops (basic o i rest) en kd ∷ Ls) ∷ Fs) g co))
       by_kind None one is = absurd (cc)
       by_kind (Some k1) one is = by_places e ops k1 f one c is pre
 
   -- ---- a basic instruction, whatever comes of it
 
-  module _ (C : Ctx) (ex : List Value) (e : List Place) (ss : List (List Place)) (ws : List Wit) (ix cl : ℕ) (r : Option ValType) (l ops : List Value) (en : ℕ) (kd : Kind) (Ls : List Label) (Fs : List Frame) (g : World) (co : List CollectorCall) (o : ℕ) (i : Basic) (rest : Nodes) (f : FitsFrame M E gl None (frame ix r cl l (label ops (basic o i rest) en kd ∷ Ls)) (wit C ex (e ∷ ss))) (fs : FitsFrames M E gl W.result r Fs ws) (wf : WorldFits M gl g) (rm : SmallOffset i × FitsIn C (result_type C (e ++ joined ss) i) (less (takes i) (e ++ joined ss)) × Room C (grown (result_type C (e ++ joined ss) i) (less (takes i) (e ++ joined ss))) rest) (usual_ : Usual i) where
+  module _ (C : Ctx) (ex : List Value) (e : List Place) (ss : List (List Place)) (ws : List Wit) (ix cl : ℕ) (r : Option ValType) (l ops : List Value) (en : ℕ) (kd : Kind) (Ls : List Label) (Fs : List Frame) (g : World) (co : List CollectorCall) (o : ℕ) (i : Basic) (rest : Nodes) (f : FitsFrame M E gl None (frame ix r cl l (label ops (basic o i rest) en kd ∷ Ls)) (wit C ex (e ∷ ss))) (fs : FitsFrames M E gl W.result r Fs ws) (wf : WorldFits M gl g) (rm : SmallOffset i × FitsIn C (result_type C (e ++ joined ss) i) (less (takes i) (e ++ joined ss)) × Room C (grown (result_type C (e ++ joined ss) i) (less (takes i) (e ++ joined ss))) rest) (usual_ : Usual i) (safe : Safe C g l ops (basic o i rest)) where
     abbrev FB : Frame
     FB = frame ix r cl l (label ops (basic o i rest) en kd ∷ Ls)
 
@@ -170,15 +174,19 @@ module _ (M M' : Engine) (E : ℕ) (gl : List ValType) (W : Wrap) (S : Stands M 
     abbrev TB : Bool → Config
     TB b = st XB (l ++ ex) ops (guarded b C lsb esb o i kb) gb co
 
-    basic_trap : (vs below : List Value) (k : ℕ) → cut (takes i) ops ≡ parts vs below → effect i g l vs ≡ fails k → After M M' E gl W (TB (can_trap i)) (traps k (config (FB ∷ Fs) g co))
+    basic_trap : (vs below : List Value) (k : ℕ) → cut (takes i) ops ≡ parts vs below → effect i g l vs ≡ fails k → Comes M M' E gl W (TB (needs C o i)) (traps k (config (FB ∷ Fs) g co))
     basic_trap vs below k c p =
         let h = f.labels in
         let tr = subst (λ z. Rel M gl (result_type C esb i) (can_trap i) l ex (values.I32 0) z (effect i gb (l ++ ex) vs)) p (framed M gl C esb l g ex (values.I32 0) f.size wf (sym f.flag) i vs (match_of l ex (takes i) (joined ss) e ops vs below h.0 c)) in
         let j = tr.1 in
         let is : kind_of (effect i g l vs) ≡ suc j = ap kind_of p ∙ tr.2 in
-        subst₂ (λ b z. After M M' E gl W (TB b) (traps z (config (FB ∷ Fs) g co))) (sym tr.0) (sym tr.2) (by_number (number_in C.landings (landing_of i esb)) j refl tr.0 is (p ∙ ap fails tr.2))
+        by_need (needs C o i) refl tr.0 (subst (λ z. Comes M M' E gl W (TB true) (traps z (config (FB ∷ Fs) g co))) (sym tr.2) (by_number (number_in C.landings (landing_of i esb)) j refl tr.0 is (p ∙ ap fails tr.2)))
       where
-        by_number : (q : Option ℕ) (j : ℕ) → number_in C.landings (landing_of i esb) ≡ q → can_trap i ≡ true → kind_of (effect i g l vs) ≡ suc j → effect i g l vs ≡ fails (suc j) → After M M' E gl W (st XB (l ++ ex) ops (checked q C lsb esb o (guard C i esb) (kind C i esb) kb) gb co) (traps (suc j) (config (FB ∷ Fs) g co))
+        by_need : (b : Bool) → needs C o i ≡ b → can_trap i ≡ true → Comes M M' E gl W (TB true) (traps k (config (FB ∷ Fs) g co)) → Comes M M' E gl W (TB b) (traps k (config (FB ∷ Fs) g co))
+        by_need true n t h = h
+        by_need false n t h = absurd (safe n t vs below k c p)
+
+        by_number : (q : Option ℕ) (j : ℕ) → number_in C.landings (landing_of i esb) ≡ q → can_trap i ≡ true → kind_of (effect i g l vs) ≡ suc j → effect i g l vs ≡ fails (suc j) → Comes M M' E gl W (st XB (l ++ ex) ops (checked q C lsb esb o (guard C i esb) (kind C i esb) kb) gb co) (traps (suc j) (config (FB ∷ Fs) g co))
         by_number None j num ct is p =
             let h = f.labels in
             let T0 = st XB (l ++ ex) ops (guard C i esb (tested C lsb esb o (kind C i esb) kb)) gb co in
@@ -203,19 +211,19 @@ module _ (M M' : Engine) (E : ℕ) (gl : List ValType) (W : Wrap) (S : Stands M 
     stayed : (g' : World) (l' ws' : List Value) (x : Effect) → Stays l x → x ≡ gives g' l' ws' → l' ≡ l
     stayed g' l' ws' x h p = subst (Stays l) p h
 
-    performed : (vs below : List Value) (x : Effect) → cut (takes i) ops ≡ parts vs below → effect i g l vs ≡ x → After M M' E gl W (TB (can_trap i)) (affects M x below rest FB LB Ls Fs g co)
+    performed : (vs below : List Value) (x : Effect) → cut (takes i) ops ≡ parts vs below → effect i g l vs ≡ x → Comes M M' E gl W (TB (needs C o i)) (affects M x below rest FB LB Ls Fs g co)
     performed vs below (gives g' l' ws') c p = usual_gives M M' E gl W C ex e ss ws ix cl r l ops en kd Ls Fs g co i o rest vs below l' g' ws' f fs wf rm (stayed g' l' ws' (effect i g l vs) (stays l i g vs usual_) p) c p
     performed vs below (fails k) c p = basic_trap vs below k c p
     performed vs below unfit c p = tt
 
-    acts : (u : Cut) → cut (takes i) ops ≡ u → After M M' E gl W (TB (can_trap i)) (does M i u rest FB LB Ls Fs g co)
+    acts : (u : Cut) → cut (takes i) ops ≡ u → Comes M M' E gl W (TB (needs C o i)) (does M i u rest FB LB Ls Fs g co)
     acts short c = tt
     acts (parts vs below) c = performed vs below (effect i g l vs) c refl
 
-    plain_sim : After M M' E gl W (TB (can_trap i)) (does M i (cut (takes i) ops) rest FB LB Ls Fs g co)
+    plain_sim : Comes M M' E gl W (TB (needs C o i)) (does M i (cut (takes i) ops) rest FB LB Ls Fs g co)
     plain_sim = acts (cut (takes i) ops) refl
 
-  unreachable_sim : (C : Ctx) (ex : List Value) (e : List Place) (ss : List (List Place)) (ws : List Wit) (ix cl : ℕ) (r : Option ValType) (l ops : List Value) (en : ℕ) (kd : Kind) (Ls : List Label) (Fs : List Frame) (g : World) (co : List CollectorCall) (o : ℕ) (rest : Nodes) → FitsFrame M E gl None (frame ix r cl l (label ops (jump o Unreachable rest) en kd ∷ Ls)) (wit C ex (e ∷ ss)) → FitsFrames M E gl W.result r Fs ws → WorldFits M gl g → After M M' E gl W (tgt M W C ex e ss ws r l ops kd Ls Fs g co (jump o Unreachable rest)) (traps 1 (config (frame ix r cl l (label ops (jump o Unreachable rest) en kd ∷ Ls) ∷ Fs) g co))
+  unreachable_sim : (C : Ctx) (ex : List Value) (e : List Place) (ss : List (List Place)) (ws : List Wit) (ix cl : ℕ) (r : Option ValType) (l ops : List Value) (en : ℕ) (kd : Kind) (Ls : List Label) (Fs : List Frame) (g : World) (co : List CollectorCall) (o : ℕ) (rest : Nodes) → FitsFrame M E gl None (frame ix r cl l (label ops (jump o Unreachable rest) en kd ∷ Ls)) (wit C ex (e ∷ ss)) → FitsFrames M E gl W.result r Fs ws → WorldFits M gl g → Comes M M' E gl W (tgt M W C ex e ss ws r l ops kd Ls Fs g co (jump o Unreachable rest)) (traps 1 (config (frame ix r cl l (label ops (jump o Unreachable rest) en kd ∷ Ls) ∷ Fs) g co))
   unreachable_sim C ex e ss ws ix cl r l ops en kd Ls Fs g co o rest f fs wf = trap_from M M' E gl W S C ex e ss ws ix cl r l ops en kd Ls Fs g co (jump o Unreachable rest) f fs wf _ 0 (jump 0 Unreachable stop)
       (let X = shell W C r kd Ls ss Fs ws in
       let k = jump 0 Unreachable stop in
@@ -229,12 +237,12 @@ module _ (M M' : Engine) (E : ℕ) (gl : List ValType) (W : Wrap) (S : Stands M 
 
   -- ---- each step
 
-  basic_as : (C : Ctx) (ex : List Value) (e : List Place) (ss : List (List Place)) (ws : List Wit) (ix cl : ℕ) (r : Option ValType) (l ops : List Value) (en : ℕ) (kd : Kind) (Ls : List Label) (Fs : List Frame) (g : World) (co : List CollectorCall) (o : ℕ) (i : Basic) → Treated i → (rest : Nodes) → FitsFrame M E gl None (frame ix r cl l (label ops (basic o i rest) en kd ∷ Ls)) (wit C ex (e ∷ ss)) → FitsFrames M E gl W.result r Fs ws → WorldFits M gl g → After M M' E gl W (tgt M W C ex e ss ws r l ops kd Ls Fs g co (basic o i rest)) (does M i (cut (takes i) ops) rest (frame ix r cl l (label ops (basic o i rest) en kd ∷ Ls)) (label ops (basic o i rest) en kd) Ls Fs g co)
-  basic_as C ex e ss ws ix cl r l ops en kd Ls Fs g co o i (gets x) rest f fs wf = get_sim M M' E gl W C ex e ss ws ix cl r l ops en kd Ls Fs g co o x rest f fs wf
-  basic_as C ex e ss ws ix cl r l ops en kd Ls Fs g co o i (sets x) rest f fs wf = set_sim M M' E gl W C ex e ss ws ix cl r l ops en kd Ls Fs g co o x rest f fs wf
-  basic_as C ex e ss ws ix cl r l ops en kd Ls Fs g co o i (tees x) rest f fs wf = tee_sim M M' E gl W C ex e ss ws ix cl r l ops en kd Ls Fs g co o x rest f fs wf
-  basic_as C ex e ss ws ix cl r l ops en kd Ls Fs g co o i (constant v) rest f fs wf = push_sim M M' E gl W C ex e ss ws ix cl r l ops en kd Ls Fs g co o v rest f fs wf
-  basic_as C ex e ss ws ix cl r l ops en kd Ls Fs g co o i (spills none no_local given) rest f fs wf =
+  basic_as : (C : Ctx) (ex : List Value) (e : List Place) (ss : List (List Place)) (ws : List Wit) (ix cl : ℕ) (r : Option ValType) (l ops : List Value) (en : ℕ) (kd : Kind) (Ls : List Label) (Fs : List Frame) (g : World) (co : List CollectorCall) (o : ℕ) (i : Basic) → Treated i → (rest : Nodes) → FitsFrame M E gl None (frame ix r cl l (label ops (basic o i rest) en kd ∷ Ls)) (wit C ex (e ∷ ss)) → FitsFrames M E gl W.result r Fs ws → WorldFits M gl g → Safe C g l ops (basic o i rest) → Comes M M' E gl W (tgt M W C ex e ss ws r l ops kd Ls Fs g co (basic o i rest)) (does M i (cut (takes i) ops) rest (frame ix r cl l (label ops (basic o i rest) en kd ∷ Ls)) (label ops (basic o i rest) en kd) Ls Fs g co)
+  basic_as C ex e ss ws ix cl r l ops en kd Ls Fs g co o i (gets x) rest f fs wf safe = get_sim M M' E gl W C ex e ss ws ix cl r l ops en kd Ls Fs g co o x rest f fs wf
+  basic_as C ex e ss ws ix cl r l ops en kd Ls Fs g co o i (sets x) rest f fs wf safe = set_sim M M' E gl W C ex e ss ws ix cl r l ops en kd Ls Fs g co o x rest f fs wf
+  basic_as C ex e ss ws ix cl r l ops en kd Ls Fs g co o i (tees x) rest f fs wf safe = tee_sim M M' E gl W C ex e ss ws ix cl r l ops en kd Ls Fs g co o x rest f fs wf
+  basic_as C ex e ss ws ix cl r l ops en kd Ls Fs g co o i (constant v) rest f fs wf safe = push_sim M M' E gl W C ex e ss ws ix cl r l ops en kd Ls Fs g co o v rest f fs wf
+  basic_as C ex e ss ws ix cl r l ops en kd Ls Fs g co o i (spills none no_local given) rest f fs wf safe =
       let es = e ++ joined ss in
       let left = less (takes i) es in
       let d = suc (length Ls) in
@@ -245,14 +253,14 @@ module _ (M M' : Engine) (E : ℕ) (gl : List ValType) (W : Wrap) (S : Stands M 
       let rm : SmallOffset i × FitsIn C (result_type C es i) left × Room C (grown (result_type C es i) left) rest = (f.labels.2.1, f.labels.2.2, subst (λ (z : List Place). Room C z rest) behind f.labels.2.3) in
       subst
       (λ (k : Nodes).
-      After M M' E gl W (st X (l ++ ex) ops (guarded (can_trap i) C d es o i k) (flagged M g (values.I32 0)) co)
+      Comes M M' E gl W (st X (l ++ ex) ops (guarded (needs C o i) C d es o i k) (flagged M g (values.I32 0)) co)
       (does M i (cut (takes i) ops) rest (frame ix r cl l (label ops (basic o i rest) en kd ∷ Ls)) (label ops (basic o i rest) en kd) Ls Fs g co))
-      (sym same) (plain_sim C ex e ss ws ix cl r l ops en kd Ls Fs g co o i rest f fs wf rm no_local)
+      (sym same) (plain_sim C ex e ss ws ix cl r l ops en kd Ls Fs g co o i rest f fs wf rm no_local safe)
 
-  basic_sim : (C : Ctx) (ex : List Value) (e : List Place) (ss : List (List Place)) (ws : List Wit) (ix cl : ℕ) (r : Option ValType) (l ops : List Value) (en : ℕ) (kd : Kind) (Ls : List Label) (Fs : List Frame) (g : World) (co : List CollectorCall) (o : ℕ) (i : Basic) (rest : Nodes) → FitsFrame M E gl None (frame ix r cl l (label ops (basic o i rest) en kd ∷ Ls)) (wit C ex (e ∷ ss)) → FitsFrames M E gl W.result r Fs ws → WorldFits M gl g → After M M' E gl W (tgt M W C ex e ss ws r l ops kd Ls Fs g co (basic o i rest)) (does M i (cut (takes i) ops) rest (frame ix r cl l (label ops (basic o i rest) en kd ∷ Ls)) (label ops (basic o i rest) en kd) Ls Fs g co)
-  basic_sim C ex e ss ws ix cl r l ops en kd Ls Fs g co o i rest f fs wf = basic_as C ex e ss ws ix cl r l ops en kd Ls Fs g co o i (treated i) rest f fs wf
+  basic_sim : (C : Ctx) (ex : List Value) (e : List Place) (ss : List (List Place)) (ws : List Wit) (ix cl : ℕ) (r : Option ValType) (l ops : List Value) (en : ℕ) (kd : Kind) (Ls : List Label) (Fs : List Frame) (g : World) (co : List CollectorCall) (o : ℕ) (i : Basic) (rest : Nodes) → FitsFrame M E gl None (frame ix r cl l (label ops (basic o i rest) en kd ∷ Ls)) (wit C ex (e ∷ ss)) → FitsFrames M E gl W.result r Fs ws → WorldFits M gl g → Safe C g l ops (basic o i rest) → Comes M M' E gl W (tgt M W C ex e ss ws r l ops kd Ls Fs g co (basic o i rest)) (does M i (cut (takes i) ops) rest (frame ix r cl l (label ops (basic o i rest) en kd ∷ Ls)) (label ops (basic o i rest) en kd) Ls Fs g co)
+  basic_sim C ex e ss ws ix cl r l ops en kd Ls Fs g co o i rest f fs wf safe = basic_as C ex e ss ws ix cl r l ops en kd Ls Fs g co o i (treated i) rest f fs wf safe
 
-  jump_sim : (C : Ctx) (ex : List Value) (e : List Place) (ss : List (List Place)) (ws : List Wit) (ix cl : ℕ) (r : Option ValType) (l ops : List Value) (en : ℕ) (kd : Kind) (Ls : List Label) (Fs : List Frame) (g : World) (co : List CollectorCall) (o : ℕ) (j : Jump) (rest : Nodes) → FitsFrame M E gl None (frame ix r cl l (label ops (jump o j rest) en kd ∷ Ls)) (wit C ex (e ∷ ss)) → FitsFrames M E gl W.result r Fs ws → WorldFits M gl g → suc (length Fs) ≤ M.depth → After M M' E gl W (tgt M W C ex e ss ws r l ops kd Ls Fs g co (jump o j rest)) (jumps M j o rest (frame ix r cl l (label ops (jump o j rest) en kd ∷ Ls)) (label ops (jump o j rest) en kd) Ls Fs g co)
+  jump_sim : (C : Ctx) (ex : List Value) (e : List Place) (ss : List (List Place)) (ws : List Wit) (ix cl : ℕ) (r : Option ValType) (l ops : List Value) (en : ℕ) (kd : Kind) (Ls : List Label) (Fs : List Frame) (g : World) (co : List CollectorCall) (o : ℕ) (j : Jump) (rest : Nodes) → FitsFrame M E gl None (frame ix r cl l (label ops (jump o j rest) en kd ∷ Ls)) (wit C ex (e ∷ ss)) → FitsFrames M E gl W.result r Fs ws → WorldFits M gl g → suc (length Fs) ≤ M.depth → Comes M M' E gl W (tgt M W C ex e ss ws r l ops kd Ls Fs g co (jump o j rest)) (jumps M j o rest (frame ix r cl l (label ops (jump o j rest) en kd ∷ Ls)) (label ops (jump o j rest) en kd) Ls Fs g co)
   jump_sim C ex e ss ws ix cl r l ops en kd Ls Fs g co o Unreachable rest f fs wf sh = unreachable_sim C ex e ss ws ix cl r l ops en kd Ls Fs g co o rest f fs wf
   jump_sim C ex e ss ws ix cl r l ops en kd Ls Fs g co o (Br n) rest f fs wf sh = br_node M M' E gl W C ex e ss ws ix cl r l ops en kd Ls Fs g co o n rest f fs wf
   jump_sim C ex e ss ws ix cl r l ops en kd Ls Fs g co o (BrIf n) rest f fs wf sh = br_if_node M M' E gl W C ex e ss ws ix cl r l ops en kd Ls Fs g co o n rest f fs wf
@@ -261,26 +269,37 @@ module _ (M M' : Engine) (E : ℕ) (gl : List ValType) (W : Wrap) (S : Stands M 
   jump_sim C ex e ss ws ix cl r l ops en kd Ls Fs g co o (Call g') rest f fs wf sh = call_node M M' E gl W S C ex e ss ws ix cl r l ops en kd Ls Fs g co o g' rest f fs wf (function_at M.program g') refl
   jump_sim C ex e ss ws ix cl r l ops en kd Ls Fs g co o (CallIndirect t) rest f fs wf sh = indirect_node C ex e ss ws ix cl r l ops en kd Ls Fs g co o t rest f fs wf sh
 
-  node_sim : (C : Ctx) (ex : List Value) (e : List Place) (ss : List (List Place)) (ws : List Wit) (ix cl : ℕ) (r : Option ValType) (l ops : List Value) (en : ℕ) (kd : Kind) (Ls : List Label) (Fs : List Frame) (g : World) (co : List CollectorCall) (N : Nodes) → FitsFrame M E gl None (frame ix r cl l (label ops N en kd ∷ Ls)) (wit C ex (e ∷ ss)) → FitsFrames M E gl W.result r Fs ws → WorldFits M gl g → suc (length Fs) ≤ M.depth → After M M' E gl W (tgt M W C ex e ss ws r l ops kd Ls Fs g co N) (runs M N (frame ix r cl l (label ops N en kd ∷ Ls)) (label ops N en kd) Ls Fs g co)
-  node_sim C ex e ss ws ix cl r l ops en kd Ls Fs g co stop f fs wf sh = end_sim M M' E gl W C ex e ss ws ix cl r l ops en kd Ls Fs g co f fs wf
-  node_sim C ex e ss ws ix cl r l ops en kd Ls Fs g co (basic o i rest) f fs wf sh = basic_sim C ex e ss ws ix cl r l ops en kd Ls Fs g co o i rest f fs wf
-  node_sim C ex e ss ws ix cl r l ops en kd Ls Fs g co (jump o j rest) f fs wf sh = jump_sim C ex e ss ws ix cl r l ops en kd Ls Fs g co o j rest f fs wf sh
-  node_sim C ex e ss ws ix cl r l ops en kd Ls Fs g co (block o a inner en' rest) f fs wf sh = block_sim M M' E gl W C ex e ss ws ix cl r l ops en kd Ls Fs g co o a inner en' rest f fs wf
-  node_sim C ex e ss ws ix cl r l ops en kd Ls Fs g co (loop o a inner en' rest) f fs wf sh = loop_sim M M' E gl W C ex e ss ws ix cl r l ops en kd Ls Fs g co o a inner en' rest f fs wf
-  node_sim C ex e ss ws ix cl r l ops en kd Ls Fs g co (choose o a x ea y en' rest) f fs wf sh = if_sim M M' E gl W C ex e ss ws ix cl r l ops en kd Ls Fs g co o a x ea y en' rest f fs wf
+  node_sim : (C : Ctx) (ex : List Value) (e : List Place) (ss : List (List Place)) (ws : List Wit) (ix cl : ℕ) (r : Option ValType) (l ops : List Value) (en : ℕ) (kd : Kind) (Ls : List Label) (Fs : List Frame) (g : World) (co : List CollectorCall) (N : Nodes) → FitsFrame M E gl None (frame ix r cl l (label ops N en kd ∷ Ls)) (wit C ex (e ∷ ss)) → FitsFrames M E gl W.result r Fs ws → WorldFits M gl g → suc (length Fs) ≤ M.depth → Safe C g l ops N → Comes M M' E gl W (tgt M W C ex e ss ws r l ops kd Ls Fs g co N) (runs M N (frame ix r cl l (label ops N en kd ∷ Ls)) (label ops N en kd) Ls Fs g co)
+  node_sim C ex e ss ws ix cl r l ops en kd Ls Fs g co stop f fs wf sh safe = end_sim M M' E gl W C ex e ss ws ix cl r l ops en kd Ls Fs g co f fs wf
+  node_sim C ex e ss ws ix cl r l ops en kd Ls Fs g co (basic o i rest) f fs wf sh safe = basic_sim C ex e ss ws ix cl r l ops en kd Ls Fs g co o i rest f fs wf safe
+  node_sim C ex e ss ws ix cl r l ops en kd Ls Fs g co (jump o j rest) f fs wf sh safe = jump_sim C ex e ss ws ix cl r l ops en kd Ls Fs g co o j rest f fs wf sh
+  node_sim C ex e ss ws ix cl r l ops en kd Ls Fs g co (block o a inner en' rest) f fs wf sh safe = block_sim M M' E gl W C ex e ss ws ix cl r l ops en kd Ls Fs g co o a inner en' rest f fs wf
+  node_sim C ex e ss ws ix cl r l ops en kd Ls Fs g co (loop o a inner en' rest) f fs wf sh safe = loop_sim M M' E gl W C ex e ss ws ix cl r l ops en kd Ls Fs g co o a inner en' rest f fs wf
+  node_sim C ex e ss ws ix cl r l ops en kd Ls Fs g co (choose o a x ea y en' rest) f fs wf sh safe = if_sim M M' E gl W C ex e ss ws ix cl r l ops en kd Ls Fs g co o a x ea y en' rest f fs wf
 
-  labels_sim : (C : Ctx) (ex : List Value) (ss : List (List Place)) (ws : List Wit) (ix cl : ℕ) (r : Option ValType) (l : List Value) (Ls : List Label) (Fs : List Frame) (g : World) (co : List CollectorCall) → FitsFrame M E gl None (frame ix r cl l Ls) (wit C ex ss) → FitsFrames M E gl W.result r Fs ws → WorldFits M gl g → suc (length Fs) ≤ M.depth → After M M' E gl W (image M W (config (frame ix r cl l Ls ∷ Fs) g co) (wit C ex ss ∷ ws)) (in_frame M Ls (frame ix r cl l Ls) Fs g co)
-  labels_sim C ex ss ws ix cl r l [] Fs g co f fs wf sh = tt
-  labels_sim C ex [] ws ix cl r l (L ∷ Ls) Fs g co f fs wf sh = absurd f.labels
-  labels_sim C ex (e ∷ ss) ws ix cl r l (L ∷ Ls) Fs g co f fs wf sh = node_sim C ex e ss ws ix cl r l L.operands L.end L.kind Ls Fs g co L.nodes f fs wf sh
+  labels_sim : (C : Ctx) (ex : List Value) (ss : List (List Place)) (ws : List Wit) (ix cl : ℕ) (r : Option ValType) (l : List Value) (Ls : List Label) (Fs : List Frame) (g : World) (co : List CollectorCall) → FitsFrame M E gl None (frame ix r cl l Ls) (wit C ex ss) → FitsFrames M E gl W.result r Fs ws → WorldFits M gl g → suc (length Fs) ≤ M.depth → KnownLabels (exposed_in (nodes_in M.program ix)) (frail (nodes_in M.program ix)) l g.memory Ls → Comes M M' E gl W (image M W (config (frame ix r cl l Ls ∷ Fs) g co) (wit C ex ss ∷ ws)) (in_frame M Ls (frame ix r cl l Ls) Fs g co)
+  labels_sim C ex ss ws ix cl r l [] Fs g co f fs wf sh k = tt
+  labels_sim C ex [] ws ix cl r l (L ∷ Ls) Fs g co f fs wf sh k = absurd f.labels
+  labels_sim C ex (e ∷ ss) ws ix cl r l (L ∷ Ls) Fs g co f fs wf sh k =
+      node_sim C ex e ss ws ix cl r l L.operands L.end L.kind Ls Fs g co L.nodes f fs wf sh
+      (safe_here C (exposed_in (nodes_in M.program ix)) (frail (nodes_in M.program ix)) k.0 g l L.operands L.nodes L.kind Ls f.exposed k.1)
 
-  frames_sim : (Fs : List Frame) (g : World) (co : List CollectorCall) (ws : List Wit) → FitsConfig M E gl W.result (config Fs g co) ws → length Fs ≤ M.depth → After M M' E gl W (image M W (config Fs g co) ws) (steps M Fs g co)
+  frames_sim : (Fs : List Frame) (g : World) (co : List CollectorCall) (ws : List Wit) → FitsConfig M E gl W.result (config Fs g co) ws → length Fs ≤ M.depth → Comes M M' E gl W (image M W (config Fs g co) ws) (steps M Fs g co)
   frames_sim [] g co ws h sh = absurd h.1
   frames_sim (F ∷ Fs) g co [] h sh = absurd h.1
   frames_sim (F ∷ Fs) g co (w ∷ ws) h sh =
       let f : FitsFrame M E gl None F w = h.1.0 in
-      labels_sim w.ctx w.ex w.ss ws F.function F.call F.result F.locals F.labels Fs g co (refit F.locals F.labels w.ex w.ss None F.call f refl refl f.labels) h.1.1 h.0 sh
+      labels_sim w.ctx w.ex w.ss ws F.function F.call F.result F.locals F.labels Fs g co (refit F.locals F.labels w.ex w.ss None F.call f refl refl f.labels) h.1.1 h.0 sh h.2.0
+
+  -- with what is known
+  known_after : (t : Config) (r : Stepped) → Comes M M' E gl W t r → KnownStepped M r → After M M' E gl W t r
+  known_after t (next c) h k = (h.0, (h.1.0, h.1.1, k), h.2)
+  known_after t (ends w vs co) h k = h
+  known_after t (traps j c) h k = h
+  known_after t (no_reply call c) h k = h
+  known_after t (bad_reply call reply c) h k = h
+  known_after t stuck h k = tt
 
   -- each step of the source is some steps of the target
   pub step_sim : (c : Config) (ws : List Wit) → FitsConfig M E gl W.result c ws → length c.frames ≤ M.depth → After M M' E gl W (image M W c ws) (step M c)
-  step_sim c ws h sh = frames_sim c.frames c.world c.collected ws h sh
+  step_sim c ws h sh = known_after (image M W c ws) (step M c) (frames_sim c.frames c.world c.collected ws h sh) (step_known M c h.2)

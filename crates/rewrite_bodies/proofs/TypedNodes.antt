@@ -2,7 +2,7 @@
 use Rattle.rewrite_bodies.proofs.OneKind.{takes_one}
 use Rattle.rewrite_bodies.proofs.Laid.{room_landed}
 use Rattle.rewrite_bodies.proofs.Landed.{same_landing_is}
-use Rattle.rewrite_bodies.specs.calls.Landings.{same_landing, number_of, number_in, landing_of, landing_behind, one_kind, carrying, most_landings, at_end, unless_there, with_some, landing_call, landings_call, landings_jump, landings_from, landed}
+use Rattle.rewrite_bodies.specs.calls.Landings.{same_landing, number_of, number_in, landing_of, landing_behind, one_kind, carrying, most_landings, at_end, unless_there, with_some, landing_call, landings_call, landings_jump, landings_from, landed, landing_at, needed}
 use Rattle.std.proofs.Common.{◌≡◌, ℕ, zero, suc, ◌==◌, if◌then◌else◌, ◌+◌, ◌≤◌, nat_lt, List, [], ◌∷◌, ◌++◌, length, map, reverse, Option, Some, None, Bool, true, false, refl, sym, ap, ap₂, ◌∙◌, subst, subst₂, arith, slice_get, option_map, option_to_list, append_assoc, append-nil, length-append, unwrap_or}
 use Rattle.std.specs.Prelude.{take}
 use Rattle.std.specs.List.{AllByRecursion}
@@ -44,6 +44,8 @@ use Rattle.rewrite_bodies.proofs.Risks.{risk_of, Treated, gets, sets, tees, cons
 use Rattle.wasm_syntax.specs.calls.Classes.{Divider, by_div_s, by_div_u, by_rem_s, by_rem_u, Risky, risky_binary, risky_load, risky_store, risky_copy, risky_fill}
 use Rattle.wasm_syntax.specs.calls.Classes.{TypeSource, DropsAny, SelectsAny, FromLocal, IntoLocal, TeesLocal, FromGlobal, IntoGlobal, OverMemory, OfItself, type_source, source_arrow, source_takes}
 use Rattle.wasm_syntax.proofs.Classes.{arrow_is, takes_is}
+use Rattle.rewrite_bodies.specs.calls.Facts.{needs, exposed_in}
+use Rattle.rewrite_bodies.proofs.FactLaws.{needs_trap}
 
 -- ---- the operands that are taken, and those that are left
 
@@ -304,10 +306,13 @@ module _ (C : Ctx) (m : Module) (locals : List ValType) (off : Offers C m locals
   land_there ls x n e = slice_get-append (map (λ i. option_to_list (carries i)) ls) (outside C.landings) (length ls) n (infos_length ls) ∙ outside_land C.landings x n e
 
   -- a guard and its test, in front of an instruction whose operands are on the stack
-  guarded_ok : (ls : List Info) (z : List ValType) (i : Basic) (t : ValType) (a : Arrow) (own js : List Place) (below : List ValType) (o : ℕ) (k : Nodes) (q : Bool) → length (own ++ js) ≤ C.slots → AllOwn C (own ++ js) → arrow (original C ls) t i ≡ Some a → map place_type (take (takes i) (own ++ js)) ≡ a.takes → map place_type own ≡ a.takes ++ below → can_trap i ≡ q → Ok (at (inside ls)) z (map place_type own) k → Ok (at (inside ls)) z (map place_type own) (guarded q C (length ls) (own ++ js) o i k)
+  guarded_ok : (ls : List Info) (z : List ValType) (i : Basic) (t : ValType) (a : Arrow) (own js : List Place) (below : List ValType) (o : ℕ) (k : Nodes) (q : Bool) → length (own ++ js) ≤ C.slots → AllOwn C (own ++ js) → arrow (original C ls) t i ≡ Some a → map place_type (take (takes i) (own ++ js)) ≡ a.takes → map place_type own ≡ a.takes ++ below → (q ≡ true → can_trap i ≡ true) → Ok (at (inside ls)) z (map place_type own) k → Ok (at (inside ls)) z (map place_type own) (guarded q C (length ls) (own ++ js) o i k)
   guarded_ok ls z i t a own js below o k false le w e h is d g = g
-  guarded_ok ls z i t a own js below o k true le w e h is d g = by_kind own (one_kind i) refl le w h is g
+  guarded_ok ls z i t a own js below o k true le w e h is dt g = by_kind own (one_kind i) refl le w h is g
     where
+      d : can_trap i ≡ true
+      d = dt refl
+
       in_place : (own : List Place) → length (own ++ js) ≤ C.slots → AllOwn C (own ++ js) → map place_type (take (takes i) (own ++ js)) ≡ a.takes → Ok (at (inside ls)) z (map place_type own) k → Ok (at (inside ls)) z (map place_type own) (checked None C (length ls) (own ++ js) o (guard C i (own ++ js)) (kind C i (own ++ js)) k)
       in_place own le w h g =
           guard_ok C m locals off returns (inside ls) z (map place_type own) (tested C (length ls) (own ++ js) o (kind C i (own ++ js)) k) ls i (risk_of i d) t a (own ++ js) le w e h d
@@ -371,7 +376,7 @@ module _ (C : Ctx) (m : Module) (locals : List ValType) (off : Offers C m locals
       let k2 : Ok (at (inside ls)) z (a.gives ++ below) (keep C p left k) = subst (λ x. Ok (at (inside ls)) z x (keep C p left k)) (sym gives_is_) (ok_keep C m locals off returns below p left (subst (λ x. FitsIn C x left) (sym (result_is C es i)) rm.2) (subst (λ x. Ok (at (inside ls)) z x k) (h.above.gives ∙ gives_is_) k1)) in
       let k3 : Ok (at (inside ls)) z (a.takes ++ below) (basic 0 i (keep C p left k)) = ok_basic below i h.any a (arrow_kept ls (inside ls) h.any i a h.has) k2 in
       let k4 : Ok (at (inside ls)) z (map place_type own) (free C i left (basic 0 i (keep C p left k))) = free_ok (local_written i) left low (own_less C n es w) (subst (λ x. Ok (at (inside ls)) z x (basic 0 i (keep C p left k))) (sym h.above.takes) k3) in
-      guarded_ok ls z i h.any a own js below o (free C i left (basic 0 i (keep C p left k))) (can_trap i) rm.0 w h.has T.taken h.above.takes refl k4
+      guarded_ok ls z i h.any a own js below o (free C i left (basic 0 i (keep C p left k))) (needs C o i) rm.0 w h.has T.taken h.above.takes (needs_trap C o i) k4
 
   -- ---- calls
 
@@ -540,18 +545,18 @@ abbrev pub AllFine : Ctx → List Landing → Type 0
 AllFine C [] = Unit {0}
 AllFine C (x ∷ xs) = Fine C x × AllFine C xs
 
-own_landed : (C : Ctx) (ys : List Landing) (e : Place) → Own C e → Own (landed C ys) e
-own_landed C ys (Spilled t) h = tt
-own_landed C ys (Known v) h = tt
-own_landed C ys (Copied t x) h = h
+own_landed : (C : Ctx) (os : List ℕ) (ys : List Landing) (e : Place) → Own C e → Own (landed C os ys) e
+own_landed C os ys (Spilled t) h = tt
+own_landed C os ys (Known v) h = tt
+own_landed C os ys (Copied t x) h = h
 
-all_own_landed : (C : Ctx) (ys : List Landing) (es : List Place) → AllOwn C es → AllOwn (landed C ys) es
-all_own_landed C ys [] h = tt
-all_own_landed C ys (e ∷ es) h = (own_landed C ys e h.0, all_own_landed C ys es h.1)
+all_own_landed : (C : Ctx) (os : List ℕ) (ys : List Landing) (es : List Place) → AllOwn C es → AllOwn (landed C os ys) es
+all_own_landed C os ys [] h = tt
+all_own_landed C os ys (e ∷ es) h = (own_landed C os ys e h.0, all_own_landed C os ys es h.1)
 
-pub all_fine_landed : (C : Ctx) (ys xs : List Landing) → AllFine C xs → AllFine (landed C ys) xs
-all_fine_landed C ys [] h = tt
-all_fine_landed C ys (x ∷ xs) h = ((h.0.0, all_own_landed C ys x.places h.0.1), all_fine_landed C ys xs h.1)
+pub all_fine_landed : (C : Ctx) (os : List ℕ) (ys xs : List Landing) → AllFine C xs → AllFine (landed C os ys) xs
+all_fine_landed C os ys [] h = tt
+all_fine_landed C os ys (x ∷ xs) h = ((h.0.0, all_own_landed C os ys x.places h.0.1), all_fine_landed C os ys xs h.1)
 
 module _ (C : Ctx) where
   fine_append : (x : Landing) (xs : List Landing) → Fine C x → AllFine C xs → AllFine C (xs ++ x ∷ [])
@@ -570,6 +575,10 @@ module _ (C : Ctx) where
   fine_carrying None es xs le w h = h
   fine_carrying (Some k) [] xs le w h = h
   fine_carrying (Some k) (e ∷ es) xs le w h = let x : Landing = record { carried = Some (place_type e); places = es; kind = k } in fine_unless (number_of x xs) x xs (omega (arith, le), w.1) h
+
+  fine_needed : (b : Bool) (i : Basic) (es : List Place) (xs : List Landing) → length es ≤ C.slots → AllOwn C es → AllFine C xs → AllFine C (with_some (needed b (landing_of i es)) xs)
+  fine_needed false i es xs le w h = h
+  fine_needed true i es xs le w h = fine_carrying (one_kind i) es xs le w h
 
   fine_call : (b : Bool) (es : List Place) (xs : List Landing) → length es ≤ C.slots → AllOwn C es → AllFine C xs → AllFine C (landing_call b es xs)
   fine_call true es xs le w h = h
@@ -596,7 +605,7 @@ module _ (C : Ctx) where
 
   pub fine_landings : (es : List Place) (nodes : Nodes) (xs : List Landing) → AllOwn C es → Room C es nodes → AllFine C xs → AllFine C (landings_from C es nodes xs)
   fine_landings es stop xs w rm h = h
-  fine_landings es (basic o i rest) xs w rm h = fine_landings (after_plain C es i) rest (with_some (landing_of i es) xs) (own_after C i es w) rm.3 (fine_carrying (one_kind i) es xs rm.0 w h)
+  fine_landings es (basic o i rest) xs w rm h = fine_landings (after_plain C es i) rest (with_some (landing_at C o i es) xs) (own_after C i es w) rm.3 (fine_needed (needs C o i) i es xs rm.0 w h)
   fine_landings es (jump o j rest) xs w rm h = fine_jump j es xs rest (λ es' xs'. landings_from C es' rest xs') (λ es' xs' w' rm' h'. fine_landings es' rest xs' w' rm' h') rm.0 w rm.1 h
   fine_landings es (block o t inner end rest) xs w rm h =
       let wu = own_without C (λ x. true) es w in
@@ -674,11 +683,13 @@ module _ (C : Ctx) (m : Module) (locals : List ValType) (off : Offers C m locals
       (core.typed, (exit_ok (returns ∷ [])).typed)
 
 -- the rewritten module offers the same with landings
-pub offers_landed : (C : Ctx) (m : Module) (locals : List ValType) (xs : List Landing) → Offers C m locals → Offers (landed C xs) m locals
-offers_landed C m locals xs off =
+pub offers_landed : (C : Ctx) (m : Module) (locals : List ValType) (os : List ℕ) (xs : List Landing) → Offers C m locals → Offers (landed C os xs) m locals
+offers_landed C m locals os xs off =
     record { locals_are = off.locals_are; globals = off.globals; flag = off.flag; flag_there = off.flag_there; flag_type = off.flag_type; flag_mutable = off.flag_mutable; memories = off.memories; tables = off.tables; types = off.types; functions = off.functions; values = off.values; frames = off.frames; helpers = off.helpers; one_result = off.one_result; one_result_of = off.one_result_of }
 
 pub body_ok : (C : Ctx) (m : Module) (locals : List ValType) → Offers C m locals → (nodes : Nodes) → Room C [] nodes → Types (original C (in_body C.result ∷ [])) nodes [] (option_to_list C.result) → Types (rewritten C m locals) (body C nodes) [] (option_to_list C.result)
 body_ok C m locals off nodes rm ty =
-    let xs = landings_from C [] nodes [] in
-    laid_ok (landed C xs) m locals (offers_landed C m locals xs off) nodes (all_fine_landed C xs xs (fine_landings C [] nodes [] tt rm tt)) (room_landed C xs [] nodes rm) ty
+    let os = exposed_in nodes in
+    let C1 = landed C os [] in
+    let xs = landings_from C1 [] nodes [] in
+    laid_ok (landed C os xs) m locals (offers_landed C m locals os xs off) nodes (all_fine_landed C1 os xs xs (fine_landings C1 [] nodes [] tt (room_landed C os [] [] nodes rm) tt)) (room_landed C os xs [] nodes rm) ty

@@ -17,7 +17,7 @@ use Rattle.wasm_syntax.specs.declared.module.ModuleParts.{ModuleParts as Module}
 use Rattle.wasm_syntax.specs.Tree.{CallIndirect, Nodes, stop, basic, jump, block, loop, choose}
 use Rattle.wasm_syntax.specs.Module.{Program, is_function, type_at}
 use Rattle.wasm_syntax.specs.Quantity.{greatest}
-use Rattle.wasm_syntax.specs.Run.{table_min, element_fits}
+use Rattle.wasm_syntax.specs.Run.{element_fits}
 use Rattle.wasm_syntax.specs.Sizes.{parameter_count}
 
 abbrev pub import_count : Module → ℕ

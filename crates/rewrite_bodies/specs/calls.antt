@@ -7,6 +7,8 @@ pub mod Standing
 pub mod Steps
 pub mod Telling
 pub mod Landings
+pub mod Facts
+pub mod Known
 pub mod Offsets
 pub mod Pieces
 pub mod Rewrite

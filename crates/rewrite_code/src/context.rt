@@ -10,11 +10,13 @@ ghost use Rattle.rewrite_bodies.specs.calls.Pieces.{get, set};
 ghost use Rattle.rewrite_bodies.specs.calls.Rewrite.{hand_value};
 ghost use Rattle.rewrite_code.specs.calls.Writing.{Emits};
 ghost use Rattle.rewrite_bodies.specs.calls.Landings.{most_landings};
+ghost use Rattle.rewrite_bodies.specs.calls.Facts.{among};
 ghost use Rattle.rewrite_code.specs.calls.KeptLandings.{landing};
 ghost use Rattle.rewrite_code.specs.calls.Contexts.{context, FewLocals};
 
 use crate::CodeWriter;
 use crate::landing::{Landing, Landings};
+use crate::offsets::Offsets;
 use crate::place::slot;
 use causes::NoMemory;
 use index_map::IndexMap;
@@ -23,7 +25,7 @@ use std::marker::Model;
 use wasm_syntax::{Basic, ValType};
 
 /// The module, the types of a function's locals with its parameters, the number of heights, its
-/// index, its result and its landings.
+/// index, its result, its landings, and the offsets of instructions that need a guard.
 #[derive(Drop)]
 pub struct FunctionContext<'m, 'a> {
     map: &'m IndexMap<'a>,
@@ -32,6 +34,7 @@ pub struct FunctionContext<'m, 'a> {
     index: u32,
     gives: Option<ValType>,
     landings: Landings,
+    exposed: Offsets,
 }
 
 impl<'m, 'a> Model for FunctionContext<'m, 'a> {
@@ -40,7 +43,7 @@ impl<'m, 'a> Model for FunctionContext<'m, 'a> {
 
     ghost Value = { Ctx };
 
-    ghost view = { λ s. context s.map.now s.locals s.slots s.index s.gives s.landings };
+    ghost view = { λ s. context s.map.now s.locals s.slots s.index s.gives s.landings s.exposed };
 
     ghost invariant = { λ s. FewLocals s.locals s.slots };
 }
@@ -54,9 +57,10 @@ impl<'m, 'a> FunctionContext<'m, 'a> {
         index: u32,
         gives: Option<ValType>,
         landings: Landings,
+        exposed: Offsets,
     ) -> Self
         requires { FewLocals locals slots }
-        ensures { result ≡ context map.now locals slots index gives landings }
+        ensures { result ≡ context map.now locals slots index gives landings exposed }
     {
         FunctionContext {
             map,
@@ -65,6 +69,7 @@ impl<'m, 'a> FunctionContext<'m, 'a> {
             index,
             gives,
             landings,
+            exposed,
         }
     }
 
@@ -118,6 +123,13 @@ impl<'m, 'a> FunctionContext<'m, 'a> {
         ensures few { result ≤ most_landings }
     {
         self.landings.count()
+    }
+
+    /// Whether an instruction at this offset needs a guard, if it can trap.
+    pub fn is_exposed(&self, offset: u32) -> bool
+        ensures { result ≡ among offset self.now.exposed }
+    {
+        self.exposed.contains(offset)
     }
 
     /// The place of the slot of a type at a height.

@@ -27,6 +27,8 @@ use Rattle.rewrite_modules.specs.calls.Wrappers.{get_all, tell_globals, after_wr
 use Rattle.rewrite_modules.specs.calls.FlatCode.{op}
 use Rattle.rewrite_bodies.proofs.Risks.{risk_of}
 use Rattle.wasm_syntax.specs.calls.Classes.{Divider, by_div_s, by_div_u, by_rem_s, by_rem_u, Risky, risky_binary, risky_load, risky_store, risky_copy, risky_fill}
+use Rattle.rewrite_bodies.specs.calls.Facts.{needs}
+use Rattle.rewrite_bodies.proofs.FactLaws.{needs_trap}
 
 module _ (C : Ctx) where
   tree_fetch : (e : Place) (h : ℕ) (k : Nodes) → IsTree k → IsTree (fetch C e h k)
@@ -154,10 +156,10 @@ module _ (C : Ctx) where
   tree_guard i risky_fill (n ∷ byte ∷ []) k tk = tk
   tree_guard i risky_fill (n ∷ byte ∷ to ∷ es) k tk = tree_range to (length es) n (suc (suc (length es))) k tk
 
-  tree_guarded : (q : Bool) (ls : ℕ) (es : List Place) (o : ℕ) (i : Basic) (k : Nodes) → can_trap i ≡ q → IsTree k → IsTree (guarded q C ls es o i k)
+  tree_guarded : (q : Bool) (ls : ℕ) (es : List Place) (o : ℕ) (i : Basic) (k : Nodes) → (q ≡ true → can_trap i ≡ true) → IsTree k → IsTree (guarded q C ls es o i k)
   tree_guarded false ls es o i k t tk = tk
   tree_guarded true ls es o i k t tk =
-      tree_checked (number_in C.landings (landing_of i es)) ls es o (guard C i es) (kind C i es) k (λ k w. tree_guard i (risk_of i t) es k w) (λ arm w. tree_kind i (risk_of i t) es arm w) tk
+      tree_checked (number_in C.landings (landing_of i es)) ls es o (guard C i es) (kind C i es) k (λ k w. tree_guard i (risk_of i (t refl)) es k w) (λ arm w. tree_kind i (risk_of i (t refl)) es arm w) tk
 
   -- ---- instructions
 
@@ -173,7 +175,7 @@ module _ (C : Ctx) where
       let left = less (takes i) es in
       let k1 = go (after_plain C es i) in
       let k2 = basic 0 i (keep C (result_place C es i) left k1) in
-      tree_guarded (can_trap i) ls es o i (free C i left k2) refl (tree_free (local_written i) left k2 (tree_keep (result_place C es i) left k1 (h (after_plain C es i))))
+      tree_guarded (needs C o i) ls es o i (free C i left k2) (needs_trap C o i) (tree_free (local_written i) left k2 (tree_keep (result_place C es i) left k1 (h (after_plain C es i))))
 
   -- ---- control
 

@@ -1,6 +1,6 @@
 -- How deep blocks are nested in rewritten code.
 use Rattle.rewrite_bodies.proofs.Laid.{few_landings}
-use Rattle.rewrite_bodies.specs.calls.Landings.{number_of, number_in, landing_of, landing_behind, with_landings}
+use Rattle.rewrite_bodies.specs.calls.Landings.{number_of, number_in, landing_of, landing_behind, with_landings, landed}
 use Rattle.std.proofs.Common.{◌≡◌, ℕ, zero, suc, ◌+◌, List, [], ◌∷◌, length, Option, Some, None, Bool, true, false, nat_lt, if◌then◌else◌, ◌==◌, refl, ap, slice_get, option_map, ◌/◌, ◌-◌, ◌≤◌, max, map, ◌∙◌, arith, subst}
 use Rattle.wasm_syntax.specs.declared.value.ValType.{ValType}
 use Rattle.wasm_syntax.specs.declared.instruction.Basic.{Basic}
@@ -35,6 +35,8 @@ use Rattle.rewrite_modules.specs.calls.FlatCode.{body_of}
 use Rattle.rewrite_modules.proofs.FlatOut.{body_out}
 use Rattle.rewrite_bodies.proofs.Risks.{risk_of}
 use Rattle.wasm_syntax.specs.calls.Classes.{Divider, by_div_s, by_div_u, by_rem_s, by_rem_u, Risky, risky_binary, risky_load, risky_store, risky_copy, risky_fill}
+use Rattle.rewrite_bodies.specs.calls.Facts.{needs, exposed_in}
+use Rattle.rewrite_bodies.proofs.FactLaws.{needs_trap}
 
 -- at most so many blocks are open at once inside the nodes
 abbrev pub Low : ℕ → Nodes → Type 0
@@ -294,10 +296,10 @@ module _ (C : Ctx) where
   low_guard lv i risky_fill (n ∷ byte ∷ []) k tk = tk
   low_guard lv i risky_fill (n ∷ byte ∷ to ∷ es) k tk = low_range lv to (length es) n (suc (suc (length es))) k tk
 
-  low_guarded : (d : ℕ) (q : Bool) (ls : ℕ) (es : List Place) (o : ℕ) (i : Basic) (k : Nodes) → can_trap i ≡ q → Low (suc (suc d)) k → Low (suc (suc d)) (guarded q C ls es o i k)
+  low_guarded : (d : ℕ) (q : Bool) (ls : ℕ) (es : List Place) (o : ℕ) (i : Basic) (k : Nodes) → (q ≡ true → can_trap i ≡ true) → Low (suc (suc d)) k → Low (suc (suc d)) (guarded q C ls es o i k)
   low_guarded d false ls es o i k t tk = tk
   low_guarded d true ls es o i k t tk =
-      low_checked d (number_in C.landings (landing_of i es)) ls es o (guard C i es) (kind C i es) k (λ k w. low_guard (suc (suc d)) i (risk_of i t) es k w) (λ arm w. low_kind (suc d) i (risk_of i t) es arm w) tk
+      low_checked d (number_in C.landings (landing_of i es)) ls es o (guard C i es) (kind C i es) k (λ k w. low_guard (suc (suc d)) i (risk_of i (t refl)) es k w) (λ arm w. low_kind (suc d) i (risk_of i (t refl)) es arm w) tk
 
   -- ---- instructions
 
@@ -313,7 +315,7 @@ module _ (C : Ctx) where
       let left = less (takes i) es in
       let k1 = go (after_plain C es i) in
       let k2 = basic 0 i (keep C (result_place C es i) left k1) in
-      low_guarded d (can_trap i) ls es o i (free C i left k2) refl (low_free (suc (suc d)) (local_written i) left k2 (low_keep (suc (suc d)) (result_place C es i) left k1 (h (after_plain C es i))))
+      low_guarded d (needs C o i) ls es o i (free C i left k2) (needs_trap C o i) (low_free (suc (suc d)) (local_written i) left k2 (low_keep (suc (suc d)) (result_place C es i) left k1 (h (after_plain C es i))))
 
   -- ---- control
 
@@ -439,7 +441,7 @@ low_more (choose at t x ea y end rest) (suc a) (suc b) le h = (low_more x a b (o
 pub low_body : (C : Ctx) (d : ℕ) (nodes : Nodes) → Low d nodes → Low (24 + d) (body C nodes)
 low_body C d nodes h =
     let D = with_landings C nodes in
-    let few = few_landings C [] nodes [] (omega arith) in
+    let few = few_landings (landed C (exposed_in nodes) []) [] nodes [] (omega arith) in
     low_more (body C nodes) (suc (length D.landings + suc (suc (suc d)))) (24 + d) (omega (arith, few)) (low_laid D d nodes h)
 
 -- ---- wrappers and helpers

@@ -35,6 +35,8 @@ use Rattle.rewrite_bodies.proofs.TypedNodes.{cuts, result_is, grown_types, takes
 use Rattle.rewrite_modules.proofs.Stacks.{gives_count, gives_len, Under_call, Under, fewer}
 use Rattle.rewrite_bodies.proofs.Risks.{risk_of}
 use Rattle.wasm_syntax.specs.calls.Classes.{Divider, by_div_s, by_div_u, by_rem_s, by_rem_u, Risky, risky_binary, risky_load, risky_store, risky_copy, risky_fill}
+use Rattle.rewrite_bodies.specs.calls.Facts.{needs, exposed_in}
+use Rattle.rewrite_bodies.proofs.FactLaws.{needs_trap}
 
 -- the operands of the original are on the stack, and those of a call through the table once more
 module _ (C : Ctx) (m : Module) (locals : List ValType) (off : Offers C m locals) (N : ℕ) (room : 2 * C.slots + 16 ≤ N) where
@@ -284,10 +286,10 @@ module _ (C : Ctx) (m : Module) (locals : List ValType) (off : Offers C m locals
   u_guard b r i risky_fill (n ∷ byte ∷ []) k u = u_none b k r u
   u_guard b r i risky_fill (n ∷ byte ∷ to ∷ es) k u = u_range b (omega (arith, r)) to (length es) n (suc (suc (length es))) k u
 
-  u_guarded : (b : ℕ) → Roomy b → (q : Bool) (d : ℕ) (es : List Place) (o : ℕ) (i : Basic) (k : Nodes) → can_trap i ≡ q → U b k → U b (guarded q C d es o i k)
+  u_guarded : (b : ℕ) → Roomy b → (q : Bool) (d : ℕ) (es : List Place) (o : ℕ) (i : Basic) (k : Nodes) → (q ≡ true → can_trap i ≡ true) → U b k → U b (guarded q C d es o i k)
   u_guarded b r false d es o i k t u = u
   u_guarded b r true d es o i k t u =
-      u_checked b d es o (number_in C.landings (landing_of i es)) (guard C i es) (kind C i es) k (omega (arith, r)) (λ k w. u_guard b r i (risk_of i t) es k w) (λ arm w. u_kind b r i (risk_of i t) es arm w) u
+      u_checked b d es o (number_in C.landings (landing_of i es)) (guard C i es) (kind C i es) k (omega (arith, r)) (λ k w. u_guard b r i (risk_of i (t refl)) es k w) (λ arm w. u_kind b r i (risk_of i (t refl)) es arm w) u
 
   -- ---- instructions
 
@@ -331,7 +333,7 @@ module _ (C : Ctx) (m : Module) (locals : List ValType) (off : Offers C m locals
       let lm = less_minus (takes i) es in
       let k2 : U (length (option_to_list (option_map place_type p)) + length left) code = u_keep (length left) p left k (omega (arith, r, lm)) (fewer m N k (length (after_plain C es i)) (length (option_to_list (option_map place_type p)) + length left) (omega (arith, rp, count, same)) k1) in
       let k3 : U b (basic 0 i code) = u_basic b i (length (option_to_list (option_map place_type p)) + length left) code (omega (arith, r)) (omega (arith, rp, lm)) k2 in
-      u_guarded b r (can_trap i) d es o i (free C i left (basic 0 i code)) refl (u_free b r (local_written i) left (basic 0 i code) k3)
+      u_guarded b r (needs C o i) d es o i (free C i left (basic 0 i code)) (needs_trap C o i) (u_free b r (local_written i) left (basic 0 i code) k3)
 
   -- ---- calls
 
@@ -569,8 +571,9 @@ module _ (C : Ctx) (m : Module) (locals : List ValType) (off : Offers C m locals
 
 pub u_body : (C : Ctx) (m : Module) (locals : List ValType) → Offers C m locals → (N : ℕ) → 2 * C.slots + 16 ≤ N → (nodes : Nodes) → Room C [] nodes → Types (original C (in_body C.result ∷ [])) nodes [] (option_to_list C.result) → Under m N 0 (body C nodes)
 u_body C m locals off N room nodes rm ty =
-    let xs = landings_from C [] nodes [] in
-    u_laid (landed C xs) m locals (offers_landed C m locals xs off) N room nodes (room_landed C xs [] nodes rm) ty
+    let os = exposed_in nodes in
+    let xs = landings_from (landed C os []) [] nodes [] in
+    u_laid (landed C os xs) m locals (offers_landed C m locals os xs off) N room nodes (room_landed C os xs [] nodes rm) ty
 
 -- ---- helpers
 

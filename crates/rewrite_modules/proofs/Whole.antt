@@ -1,5 +1,5 @@
 -- One invocation by its wrapper.
-use Rattle.rewrite_bodies.specs.calls.Landings.{landings_from, with_landings}
+use Rattle.rewrite_bodies.specs.calls.Landings.{landings_from, with_landings, landed}
 use Rattle.rewrite_bodies.proofs.Laid.{few_landings, room_landed, into_body}
 use Rattle.std.proofs.Common.{◌≡◌, ℕ, zero, suc, ◌+◌, ◌*◌, ◌<◌, ◌≤◌, List, [], ◌∷◌, ◌++◌, length, reverse, Option, Some, true, nat_lt, refl, sym, ap, ap₂, ◌∙◌, subst, subst₂, arith, append_assoc, append-nil, length-append, ◌⊎◌, inl, inr, slice_get, lt-ltb, mul-le-mul_right}
 use Rattle.wasm_syntax.specs.declared.value.ValType.{ValType}
@@ -37,6 +37,9 @@ use Rattle.rewrite_modules.specs.calls.Wrappers.{get_all, tell_globals, end_of_d
 use Rattle.rewrite_modules.proofs.Runs.{ReachS, AllMade, run_sim}
 use Rattle.wasm_laws.proofs.Progress.{zero_types}
 use Rattle.wasm_syntax.proofs.Types.{same_types_refl}
+use Rattle.rewrite_bodies.specs.calls.Facts.{exposed_in}
+use Rattle.rewrite_bodies.specs.calls.Known.{nodes_of}
+use Rattle.rewrite_bodies.proofs.KnownSteps.{begins_known}
 
 -- ---- runs by exact steps, and by steps left
 
@@ -205,7 +208,7 @@ module _ (M M' : Engine) (E : ℕ) (gl : List ValType) (S : Stands M M' E gl) (g
     target = config (entered wi wb wtree type args ∷ []) (flagged M g (values.I32 up)) []
 
     pub fits : FitsConfig M E gl W.result source (w0 ∷ [])
-    fits = (wf, (record { size = types-locals args type.params (declared_locals b.groups) ty; room = zero_types (added k.slots); idx = refl; result = refl; funcs = refl; base = refl; helpers = refl; flag = sym gm; small = k.small; narrow = k.narrow; labels = (tt, tt, room_landed C (landings_from C [] tree.nodes []) [] tree.nodes k.room, refl, tt); no_kind = tt }, refl))
+    fits = (wf, (record { size = types-locals args type.params (declared_locals b.groups) ty; room = zero_types (added k.slots); idx = refl; result = refl; funcs = refl; base = refl; helpers = refl; flag = sym gm; small = k.small; exposed = ap (λ q. exposed_in (nodes_of q)) (sym at); narrow = k.narrow; labels = (tt, tt, room_landed C (exposed_in tree.nodes) (landings_from (landed C (exposed_in tree.nodes) []) [] tree.nodes []) [] tree.nodes k.room, refl, tt); no_kind = tt }, refl), begins_known M f b tree type args g [] at)
 
     pub begin : To M' 1 (length type.params + 33) target (image M W source (w0 ∷ []))
     begin =
@@ -230,7 +233,7 @@ module _ (M M' : Engine) (E : ℕ) (gl : List ValType) (S : Stands M M' E gl) (g
         let tys : same_types (types args) type.params ≡ true = ap (λ z. same_types z type.params) ty ∙ same_types_refl type.params in
         let locals : args ++ zeros (declared_locals k.new.groups) ≡ (args ++ zeros (declared_locals b.groups)) ++ ex = new_locals args (declared_locals k.new.groups) (declared_locals b.groups) (added k.slots) k.locals in
         let s4 : To M' 1 1 (st X args (reverse args) kc g0 []) mid = one_step M' _ _ (rw (k.target, whole, twice, tys, depth, locals) refl) in
-        let s5 : To M' 0 25 mid (image M W source (w0 ∷ [])) = into_body M' (mapped m f) (result_of type) ((args ++ zeros (declared_locals b.groups)) ++ ex) (caller ∷ []) g0 [] D tree.nodes (few_landings C [] tree.nodes [] (omega arith)) in
+        let s5 : To M' 0 25 mid (image M W source (w0 ∷ [])) = into_body M' (mapped m f) (result_of type) ((args ++ zeros (declared_locals b.groups)) ++ ex) (caller ∷ []) g0 [] D tree.nodes (few_landings (landed C (exposed_in tree.nodes) []) [] tree.nodes [] (omega arith)) in
         subst (λ z. To M' 1 (length type.params + 33) (config (z ∷ []) gu []) (image M W source (w0 ∷ []))) (sym noted) (weaken M' (seq M' s1 (seq M' s2 (seq M' s3 (seq M' s4 s5)))) (omega arith) (omega arith))
 
     abbrev pub target_run : ℕ → Ended

@@ -11,7 +11,7 @@ use Rattle.rewrite_code.proofs.Loads.{emits_same}
 use Rattle.unwind_rewrite.specs.calls.Bodies.{OpensTwo, ClosesWith, OpensBoth, ClosesBefore}
 use Rattle.wasm_syntax.specs.declared.instruction.Basic.{Basic}
 use Rattle.wasm_syntax.specs.Effect.{takes}
-use Rattle.rewrite_bodies.specs.calls.Guards.{can_trap}
+use Rattle.rewrite_bodies.specs.calls.Facts.{needs}
 
 pub trapped : (C : Ctx) (ls : ℕ) (es : List Place) (o : ℕ) (go : List Place → Nodes) {a b c d e f g : Written} → Emits (const (i32 1)) a b → Opens (λ arm k. choose 0 None arm None stop 0 k) b c → Emits (const (i32 1)) c d →
     EmitsLast (unwind_kind C ls es o) d e → Closes e f → Emits (jump 0 Unreachable) f g → EmitsLast (control C ls es o Unreachable go) a g
@@ -51,7 +51,7 @@ pub put_on : (C : Ctx) (n : ℕ) (p : Option Place) (es : List Place) (i : Basic
 put_on C n p es i q r s = emits_then q (emits_then r s)
 
 pub made_plain : (C : Ctx) (ls : ℕ) (es : List Place) (o : ℕ) (i : Basic) (n : ℕ) (p : Option Place) {a b c : Written} → takes i ≡ n → result_place C es i ≡ p →
-    Emits (guarded (can_trap i) C ls es o i) a b → Emits (λ k. free C i (less n es) (basic 0 i (keep C p (less n es) k))) b c → Emits (λ k. plain C ls es o i (λ left. k)) a c
+    Emits (guarded (needs C o i) C ls es o i) a b → Emits (λ k. free C i (less n es) (basic 0 i (keep C p (less n es) k))) b c → Emits (λ k. plain C ls es o i (λ left. k)) a c
 made_plain C ls es o i n p {b = b} {c = c} taken gives g q =
     let one : Emits (λ k. free C i (less n es) (basic 0 i (keep C (result_place C es i) (less n es) k))) b c = subst (λ p. Emits (λ k. free C i (less n es) (basic 0 i (keep C p (less n es) k))) b c) (sym gives) q in
     let two : Emits (λ k. free C i (less (takes i) es) (basic 0 i (keep C (result_place C es i) (less (takes i) es) k))) b c = subst (λ n. Emits (λ k. free C i (less n es) (basic 0 i (keep C (result_place C es i) (less n es) k))) b c) (sym taken) one in

@@ -49,6 +49,7 @@ use Rattle.rewrite_promise.proofs.Layered.{body_promised}
 use Rattle.unwind_rewrite.specs.calls.Rewritten.{program_in, IsPlanIn, IsRewritten, gives_of}
 use Rattle.pm_text.proofs.Lists.{some_is}
 use Rattle.wasm_syntax.proofs.Bodies.{tree_there}
+use Rattle.rewrite_bodies.specs.calls.Facts.{exposed_in}
 
 -- ---- how many instructions there are
 
@@ -128,13 +129,13 @@ module _ (m : Module) (a : Accepted m) (f : ℕ) (b : Body) (here : body_in m f 
 
   module _ (plan : Planned) (tree : Tree) (type : FuncType) (is : function_at p f ≡ Some (defined b tree type)) (planned : IsPlan p f b tree type plan) where
     abbrev C : Ctx
-    C = context m plan.locals plan.slots f (gives_of m f) []
+    C = context m plan.locals plan.slots f (gives_of m f) [] []
 
     abbrev D : Ctx
     D = ctx_of p f b type (slots_of p f b tree type)
 
     abbrev made : List ℕ → List ValType → ℕ → Option ValType → Ctx
-    made hs ls n r = record { source = m; base = helper_base m; helpers = hs; locals = ls; slots = n; index = f; result = r; landings = [] }
+    made hs ls n r = record { source = m; base = helper_base m; helpers = hs; locals = ls; slots = n; index = f; result = r; landings = []; exposed = [] }
 
     same : C ≡ D
     same =
@@ -156,60 +157,66 @@ module _ (m : Module) (a : Accepted m) (f : ℕ) (b : Body) (here : body_in m f 
       arms = armed (body_context m type b) tree.nodes [] (reverse type.results) writes.arms (typed_.bodies f b tree type is);
     })
 
-    -- with any landings
-    fine_with : (xs : List Landing) → Fine (landed C xs) [] tree.nodes
-    fine_with xs = record { room = room_landed C xs [] tree.nodes fine.room; arms = fine.arms }
+    -- with any offsets and landings
+    fine_with : (os : List ℕ) (xs : List Landing) → Fine (landed C os xs) [] tree.nodes
+    fine_with os xs = record { room = room_landed C os xs [] tree.nodes fine.room; arms = fine.arms }
 
-    can_be : (xs : List Landing) → CanBeWritten (landed C xs) b
-    can_be xs = record { tree = tree; writes = writes; fine = fine_with xs }
+    can_be : (os : List ℕ) (xs : List Landing) → CanBeWritten (landed C os xs) b
+    can_be os xs = record { tree = tree; writes = writes; fine = fine_with os xs }
 
     -- the operands of its own have slots
-    low_ones : (xs : List Landing) → xs ≡ landings_from C [] tree.nodes [] → LowLandings (landed C xs)
-    low_ones xs e = subst (λ ys. LowLandings (landed C ys)) (sym e) (low_in (landings_from C [] tree.nodes []) (fine_landings C [] tree.nodes [] tt fine.room tt))
+    low_ones : (os : List ℕ) (xs : List Landing) → xs ≡ landings_from (landed C os []) [] tree.nodes [] → LowLandings (landed C os xs)
+    low_ones os xs e =
+        let D = landed C os [] in
+        subst (λ ys. LowLandings (landed C os ys)) (sym e) (low_in (landings_from D [] tree.nodes []) (fine_landings D [] tree.nodes [] tt (fine_with os []).room tt))
       where
-        low_in : (xs : List Landing) → AllFine C xs → (n : ℕ) (x : Landing) → slice_get xs n ≡ Some x → length x.places ≤ C.slots
+        low_in : (xs : List Landing) → AllFine (landed C os []) xs → (n : ℕ) (x : Landing) → slice_get xs n ≡ Some x → length x.places ≤ C.slots
         low_in [] h n x e = absurd (cc)
         low_in (y ∷ xs) h zero x e = let same : y ≡ x = ap (λ o. unwrap_or o y) e in subst (λ (z : Landing). length z.places ≤ C.slots) same h.0.0
         low_in (y ∷ xs) h (suc n) x e = low_in xs h.1 n x e
 
     -- what is written is the body of the definitions
-    written_is : (out : Body) (xs : List Landing) → xs ≡ landings_from C [] tree.nodes [] → ((t : Tree) → Writes b.targets b.ops t → Fine (landed C xs) [] t.nodes → body_code out ≡ body_code (body_of (b.groups ++ groups C.slots) (laid (landed C xs) t.nodes))) → body_code out ≡ body_code (new_body p f (function_at p f))
-    written_is out xs e h =
-        h tree writes (fine_with xs)
-        ∙ ap (λ ys. body_code (body_of (b.groups ++ groups C.slots) (laid (landed C ys) tree.nodes))) e
+    written_is : (out : Body) (os : List ℕ) (xs : List Landing) → os ≡ exposed_in tree.nodes → xs ≡ landings_from (landed C os []) [] tree.nodes [] → ((t : Tree) → Writes b.targets b.ops t → Fine (landed C os xs) [] t.nodes → body_code out ≡ body_code (body_of (b.groups ++ groups C.slots) (laid (landed C os xs) t.nodes))) → body_code out ≡ body_code (new_body p f (function_at p f))
+    written_is out os xs own e h =
+        h tree writes (fine_with os xs)
+        ∙ ap (λ ys. body_code (body_of (b.groups ++ groups C.slots) (laid (landed C os ys) tree.nodes))) e
+        ∙ ap (λ ps. body_code (body_of (b.groups ++ groups C.slots) (laid (landed C ps (landings_from (landed C ps []) [] tree.nodes [])) tree.nodes))) own
         ∙ ap (λ (c : Ctx). body_code (body_of (b.groups ++ groups c.slots) (body c tree.nodes))) same
         ∙ sym (ap (λ q. body_code (new_body p f q)) is)
 
   -- there is a tree
-  pub can : (plan : Planned) → IsPlanIn m f plan → (xs : List Landing) → CanBeWritten (context m plan.locals plan.slots f (gives_of m f) xs) b
-  can plan planned xs = can_be plan found.tree found.type found.is (planned a b found.tree found.type found.is) xs
+  pub can : (plan : Planned) → IsPlanIn m f plan → (os : List ℕ) (xs : List Landing) → CanBeWritten (context m plan.locals plan.slots f (gives_of m f) xs os) b
+  can plan planned os xs = can_be plan found.tree found.type found.is (planned a b found.tree found.type found.is) os xs
 
-  pub low : (plan : Planned) → IsPlanIn m f plan → (xs : List Landing) → ((t : Tree) → Writes b.targets b.ops t → xs ≡ landings_from (context m plan.locals plan.slots f (gives_of m f) []) [] t.nodes []) → LowLandings (context m plan.locals plan.slots f (gives_of m f) xs)
-  low plan planned xs e =
+  pub low : (plan : Planned) → IsPlanIn m f plan → (os : List ℕ) (xs : List Landing) → ((t : Tree) → Writes b.targets b.ops t → xs ≡ landings_from (context m plan.locals plan.slots f (gives_of m f) [] os) [] t.nodes []) → LowLandings (context m plan.locals plan.slots f (gives_of m f) xs os)
+  low plan planned os xs e =
       let is = planned a b found.tree found.type found.is in
-      low_ones plan found.tree found.type found.is is xs (e found.tree (writes plan found.tree found.type found.is is))
+      low_ones plan found.tree found.type found.is is os xs (e found.tree (writes plan found.tree found.type found.is is))
 
-pub is_rewritten : {E : Type 0} (m : Module) (f : ℕ) (b : Body) → body_in m f ≡ Some b → (plan : Planned) → IsPlanIn m f plan → (xs : List Landing) → ((t : Tree) → Writes b.targets b.ops t → xs ≡ landings_from (context m plan.locals plan.slots f (gives_of m f) []) [] t.nodes []) → (C : Ctx) → C ≡ context m plan.locals plan.slots f (gives_of m f) xs → (r : Result Body E)
+pub is_rewritten : {E : Type 0} (m : Module) (f : ℕ) (b : Body) → body_in m f ≡ Some b → (plan : Planned) → IsPlanIn m f plan → (os : List ℕ) (xs : List Landing) → ((t : Tree) → Writes b.targets b.ops t → os ≡ exposed_in t.nodes) → ((t : Tree) → Writes b.targets b.ops t → xs ≡ landings_from (context m plan.locals plan.slots f (gives_of m f) [] os) [] t.nodes []) → (C : Ctx) → C ≡ context m plan.locals plan.slots f (gives_of m f) xs os → (r : Result Body E)
     → ((t : Tree) → Writes b.targets b.ops t → Fine C [] t.nodes → IfOk r (λ out. body_code out ≡ body_code (body_of (b.groups ++ groups C.slots) (laid C t.nodes)))) → IfOk r (IsRewritten m f)
-is_rewritten m f b here plan planned xs es C e (Err x) h = tt
-is_rewritten m f b here plan planned xs es C e (Ok out) h = λ a.
+is_rewritten m f b here plan planned os xs own es C e (Err x) h = tt
+is_rewritten m f b here plan planned os xs own es C e (Ok out) h = λ a.
     let q = found m a f b here in
     let is = planned a b q.tree q.type q.is in
-    written_is m a f b here plan q.tree q.type q.is is out xs (es q.tree (writes m a f b here plan q.tree q.type q.is is))
+    written_is m a f b here plan q.tree q.type q.is is out os xs (own q.tree (writes m a f b here plan q.tree q.type q.is is)) (es q.tree (writes m a f b here plan q.tree q.type q.is is))
     (subst (λ (c : Ctx). (t : Tree) → Writes b.targets b.ops t → Fine c [] t.nodes → body_code out ≡ body_code (body_of (b.groups ++ groups c.slots) (laid c t.nodes))) e h)
 
 -- the context that is made is that of the plan
-pub planned_context : (m : Module) (f : ℕ) (plan : Planned) (xs : List Landing) {C : Ctx} {parts : Module} {ls ts : List ValType} {n : ℕ} {gives : Option ValType} → C ≡ context m ls n f gives xs → ls ≡ ts → ts ≡ plan.locals → n ≡ plan.slots → gives ≡ gives_of parts f → parts ≡ m → C ≡ context m plan.locals plan.slots f (gives_of m f) xs
-planned_context m f plan xs {n = n} {gives = gives} made locals types heights result source =
+pub planned_context : (m : Module) (f : ℕ) (plan : Planned) (os : List ℕ) (xs : List Landing) {C : Ctx} {parts : Module} {ls ts : List ValType} {n : ℕ} {gives : Option ValType} → C ≡ context m ls n f gives xs os → ls ≡ ts → ts ≡ plan.locals → n ≡ plan.slots → gives ≡ gives_of parts f → parts ≡ m → C ≡ context m plan.locals plan.slots f (gives_of m f) xs os
+planned_context m f plan os xs {n = n} {gives = gives} made locals types heights result source =
     made
-    ∙ ap (λ ls. context m ls n f gives xs) (locals ∙ types)
-    ∙ ap (λ n. context m plan.locals n f gives xs) heights
-    ∙ ap (λ g. context m plan.locals plan.slots f g xs) (result ∙ ap (λ (x : Module). gives_of x f) source)
+    ∙ ap (λ ls. context m ls n f gives xs os) (locals ∙ types)
+    ∙ ap (λ n. context m plan.locals n f gives xs os) heights
+    ∙ ap (λ g. context m plan.locals plan.slots f g xs os) (result ∙ ap (λ (x : Module). gives_of x f) source)
 
--- the landings that were noted are the function's own
-pub own_landings : (m : Module) (f : ℕ) (plan : Planned) (b : Body) (xs : List Landing) {parts : Module} {ts : List ValType} {ops : List Op} → ts ≡ plan.locals → parts ≡ m → ops ≡ b.ops → ((C : Ctx) (targets : List ℕ) (t : Tree) → C.locals ≡ ts → C.source ≡ parts → Writes targets ops t → xs ≡ landings_from C [] t.nodes []) → (t : Tree) → Writes b.targets b.ops t → xs ≡ landings_from (context m plan.locals plan.slots f (gives_of m f) []) [] t.nodes []
-own_landings m f plan b xs types source code noted t w =
-    noted (context m plan.locals plan.slots f (gives_of m f) []) b.targets t (sym types) (sym source) (subst (λ (os : List Op). Writes b.targets os t) (sym code) w)
+-- the offsets and the landings that were noted are the function's own
+pub own_exposed : (b : Body) (os : List ℕ) {ops : List Op} → ops ≡ b.ops → ((targets : List ℕ) (t : Tree) → Writes targets ops t → os ≡ exposed_in t.nodes) → (t : Tree) → Writes b.targets b.ops t → os ≡ exposed_in t.nodes
+own_exposed b os code noted t w = noted b.targets t (subst (λ (o : List Op). Writes b.targets o t) (sym code) w)
+
+pub own_landings : (m : Module) (f : ℕ) (plan : Planned) (b : Body) (os : List ℕ) (xs : List Landing) {parts : Module} {ts : List ValType} {ops : List Op} → ts ≡ plan.locals → parts ≡ m → ops ≡ b.ops → ((C : Ctx) (targets : List ℕ) (t : Tree) → C.locals ≡ ts → C.source ≡ parts → C.exposed ≡ os → Writes targets ops t → xs ≡ landings_from C [] t.nodes []) → (t : Tree) → Writes b.targets b.ops t → xs ≡ landings_from (context m plan.locals plan.slots f (gives_of m f) [] os) [] t.nodes []
+own_landings m f plan b os xs types source code noted t w =
+    noted (context m plan.locals plan.slots f (gives_of m f) [] os) b.targets t (sym types) (sym source) refl (subst (λ (o : List Op). Writes b.targets o t) (sym code) w)
 
 -- what is promised of it
 pub promised : {E : Type 0} (m : Module) (f : ℕ) (r : Result Body E) → IfOk r (IsRewritten m f) → (a : Accepted m) (i : ℕ) (old : Body) → f ≡ length m.imports + i → slice_get m.bodies i ≡ Some old → IfOk r (BodyPromised m a.premises.whole i old)

@@ -24,7 +24,7 @@ ghost use Rattle.unwind_rewrite.specs.calls.Rewritten.{Ascends, IsPlanIn, IsRewr
 use crate::{close_body, open_body, with_added, write_nodes};
 use causes::NoMemory;
 use index_map::IndexMap;
-use operand_spill::{SlotPlan, body_at, landings};
+use operand_spill::{SlotPlan, body_at, exposed, landings};
 use pm_text::Items;
 use rewrite_code::{CodeWriter, FunctionContext};
 use std::alloc::Global;
@@ -95,7 +95,9 @@ pub fn rewrite_body(
     let body = body_at(parts, func);
     let locals = Items::from_slice(alloc, plan.types())?;
     let result = gives(parts, func);
-    let found = landings(alloc, plan.types(), parts, body.ops.as_slice())?;
-    let context = FunctionContext::new(numbers, locals, plan.heights(), func, result, found);
+    let guarded = exposed(alloc, body.ops.as_slice())?;
+    let found = landings(alloc, plan.types(), parts, body.ops.as_slice(), &guarded)?;
+    let heights = plan.heights();
+    let context = FunctionContext::new(numbers, locals, heights, func, result, found, guarded);
     write_body(alloc, &context, parts, body)
 }

@@ -17,6 +17,8 @@ use Rattle.rewrite_bodies.specs.calls.Rewrite.{with_result, after_call, test_bot
 use Rattle.rewrite_bodies.specs.Numbering.{mapped, place_in, global_types, helper_base, helped, new_entries}
 use Rattle.linear_memory.specs.Memory.{Memory}
 use Rattle.rewrite_bodies.specs.calls.Offsets.{SmallOffset}
+use Rattle.rewrite_bodies.specs.calls.Facts.{exposed_in}
+use Rattle.rewrite_bodies.specs.calls.Known.{nodes_in, KnownConfig}
 
 -- the operand is in its slot besides, or is the constant, or in the local
 abbrev pub One : List Value → List Value → ℕ → Place → Value → Type 0
@@ -189,6 +191,7 @@ pub record FitsFrame (M : Engine) (E : ℕ) (gl : List ValType) (a : Option ValT
   pub helpers : w.ctx.helpers ≡ helped M.program
   pub flag : global_types w.ctx.source ≡ gl
   pub small : 2 * length w.ctx.locals + 4 * w.ctx.slots + 80 ≤ E
+  pub exposed : w.ctx.exposed ≡ exposed_in (nodes_in M.program F.function)
   pub narrow : length w.ctx.locals + w.ctx.slots ≤ (greatest M.program).0 + (greatest M.program).1
   pub labels : FitsOpen w.ctx F.locals w.ex a F.labels w.ss
   pub no_kind : NoKind w.ctx w.ex w.under_way
@@ -205,7 +208,7 @@ FitsTop M E gl wr (F ∷ Fs) [] = ⊥
 FitsTop M E gl wr (F ∷ Fs) (w ∷ ws) = FitsFrame M E gl None F w × FitsFrames M E gl wr F.result Fs ws
 
 abbrev pub FitsConfig : Engine → ℕ → List ValType → Option ValType → Config → List Wit → Type 0
-FitsConfig M E gl wr c ws = WorldFits M gl c.world × FitsTop M E gl wr c.frames ws
+FitsConfig M E gl wr c ws = WorldFits M gl c.world × FitsTop M E gl wr c.frames ws × KnownConfig M.program c
 
 -- what a wrapper's frame is but for its operands
 pub record Wrap : Type 0 where

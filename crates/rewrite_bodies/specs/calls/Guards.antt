@@ -20,8 +20,6 @@ use Rattle.wasm_syntax.specs.Module.{type_at, same_functype, option_then}
 use Rattle.wasm_syntax.specs.Run.{table_min, start_table}
 use Rattle.rewrite_bodies.specs.calls.Slots.{Place, Ctx}
 use Rattle.rewrite_bodies.specs.calls.Pieces.{const, i32, fetch}
-use Rattle.wasm_syntax.specs.declared.instruction.Instr.{Instr}
-use Rattle.wasm_syntax.specs.declared.instruction.Instr.TheVariants as instrs
 
 -- the least signed number of a type, and -1
 abbrev pub least : ValType → Value

@@ -1,7 +1,6 @@
 -- The landings of a function: one for each list of places, and kind, with which its frame may be handed over, in the order of the code, up to a
 -- number of them.
 use Rattle.std.specs.Prelude.{ℕ, suc, nat_lt, ◌==◌, ◌&&◌, List, [], ◌∷◌, ◌++◌, length, slice_get, if◌then◌else◌, Option, Some, None, option_map, Bool, true, false}
-use Rattle.wasm_syntax.specs.declared.value.ValType.{ValType}
 use Rattle.wasm_syntax.specs.declared.value.Value.{Value}
 use Rattle.wasm_syntax.specs.declared.value.Value.TheVariants as values
 use Rattle.int_ops.specs.declared.operators.Binary.{Binary as BinaryOp}
@@ -14,6 +13,7 @@ use Rattle.wasm_syntax.specs.Tree.{Jump, BrIf, Call, CallIndirect, Nodes, stop, 
 use Rattle.wasm_syntax.specs.Module.{type_at}
 use Rattle.wasm_syntax.specs.Machine.{result_of, same_result}
 use Rattle.rewrite_bodies.specs.Numbering.{import_count}
+use Rattle.rewrite_bodies.specs.calls.Facts.{exposed_in, needs}
 use Rattle.rewrite_bodies.specs.calls.Slots.{Place, Spilled, Known, Copied, place_type, Landing, Ctx, less, grown, under, after_plain}
 
 -- ---- which landing
@@ -72,6 +72,14 @@ landing_of i es = carrying (one_kind i) es
 abbrev pub landing_behind : List Place → Landing
 landing_behind es = record { carried = None; places = es; kind = 0 }
 
+-- where it needs a guard
+abbrev pub needed : Bool → Option Landing → Option Landing
+needed false o = None
+needed true o = o
+
+abbrev pub landing_at : Ctx → ℕ → Basic → List Place → Option Landing
+landing_at C o i es = needed (needs C o i) (landing_of i es)
+
 abbrev pub number_in : List Landing → Option Landing → Option ℕ
 number_in xs None = None
 number_in xs (Some x) = number_of x xs
@@ -117,17 +125,18 @@ landings_jump C j es xs go = xs
 -- those of live code, behind these
 abbrev pub landings_from : Ctx → List Place → Nodes → List Landing → List Landing
 landings_from C es stop xs = xs
-landings_from C es (basic o i rest) xs = landings_from C (after_plain C es i) rest (with_some (landing_of i es) xs)
+landings_from C es (basic o i rest) xs = landings_from C (after_plain C es i) rest (with_some (landing_at C o i es) xs)
 landings_from C es (jump o j rest) xs = landings_jump C j es xs (λ es' xs'. landings_from C es' rest xs')
 landings_from C es (block o t inner end rest) xs = landings_from C (grown t (under es)) rest (landings_from C (under es) inner xs)
 landings_from C es (loop o t inner end rest) xs = landings_from C (grown t (under es)) rest (landings_from C (under es) inner xs)
 landings_from C es (choose o t a else_at b end rest) xs =
     let left = under (less 1 es) in landings_from C (grown t left) rest (landings_from C left b (landings_from C left a xs))
 
--- the function with its landings
-abbrev pub landed : Ctx → List Landing → Ctx
-landed C xs =
-    record { source = C.source; base = C.base; helpers = C.helpers; locals = C.locals; slots = C.slots; index = C.index; result = C.result; landings = xs }
+-- the function with these offsets and landings
+abbrev pub landed : Ctx → List ℕ → List Landing → Ctx
+landed C os xs =
+    record { source = C.source; base = C.base; helpers = C.helpers; locals = C.locals; slots = C.slots; index = C.index; result = C.result; landings = xs; exposed = os }
 
+-- the function with its own ones
 abbrev pub with_landings : Ctx → Nodes → Ctx
-with_landings C nodes = landed C (landings_from C [] nodes [])
+with_landings C nodes = let os = exposed_in nodes in landed C os (landings_from (landed C os []) [] nodes [])

@@ -15,7 +15,8 @@ use Rattle.wasm_syntax.specs.Machine.{result_of, zero_of}
 use Rattle.rewrite_bodies.specs.Numbering.{import_count, mapped, value_import, frame_import, flag_of, place_in, doubles}
 use Rattle.rewrite_bodies.specs.calls.Slots.{Place, Spilled, place_type, Ctx, kind_at, offset_at, less, grown, under, result_place, after_plain, Landing, local_written}
 use Rattle.rewrite_bodies.specs.calls.Pieces.{get, set, const, i32, call, if_any, fetch, load, keep, store, reload, spill, drops}
-use Rattle.rewrite_bodies.specs.calls.Guards.{guard, can_trap, kind}
+use Rattle.rewrite_bodies.specs.calls.Guards.{guard, kind}
+use Rattle.rewrite_bodies.specs.calls.Facts.{needs}
 use Rattle.rewrite_bodies.specs.calls.Landings.{number_of, number_in, landing_of, landing_behind, with_landings}
 
 -- ---- handing over
@@ -78,7 +79,7 @@ free C i es k = free_at C (local_written i) es k
 
 abbrev pub plain : Ctx → ℕ → List Place → ℕ → Basic → (List Place → Nodes) → Nodes
 plain C d es o i go =
-    guarded (can_trap i) C d es o i (free C i (less (takes i) es) (basic 0 i (keep C (result_place C es i) (less (takes i) es) (go (after_plain C es i)))))
+    guarded (needs C o i) C d es o i (free C i (less (takes i) es) (basic 0 i (keep C (result_place C es i) (less (takes i) es) (go (after_plain C es i)))))
 
 -- ---- control
 

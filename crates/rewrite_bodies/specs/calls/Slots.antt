@@ -38,7 +38,7 @@ pub record Landing : Type 0 where
   pub kind : ℕ
 
 -- what is fixed in a function: its module, the index of the first helper and the types that have one, the types of its locals, the
--- number of heights, its index and its result, and its landings
+-- number of heights, its index and its result, its landings, and the offsets of instructions that need a guard
 pub record Ctx : Type 0 where
   pub source : Module
   pub base : ℕ
@@ -48,6 +48,7 @@ pub record Ctx : Type 0 where
   pub index : ℕ
   pub result : Option ValType
   pub landings : List Landing
+  pub exposed : List ℕ
 
 -- the added locals: a slot of each type at each height, two results, kind and offset
 abbrev pub slot : ValType → ℕ → ℕ
@@ -185,7 +186,7 @@ peak C es (choose o t a else_at b end rest) =
 -- what is fixed in function f of a program, before its landings are known
 abbrev pub ctx_of : Program → ℕ → Body → FuncType → ℕ → Ctx
 ctx_of p f b type slots =
-    record { source = p.module_; base = helper_base p.module_; helpers = helped p; locals = type.params ++ declared_locals b.groups; slots = slots; index = f; result = result_of type; landings = [] }
+    record { source = p.module_; base = helper_base p.module_; helpers = helped p; locals = type.params ++ declared_locals b.groups; slots = slots; index = f; result = result_of type; landings = []; exposed = [] }
 
 -- heights do not depend on the number of slots
 abbrev pub slots_of : Program → ℕ → Body → Tree → FuncType → ℕ

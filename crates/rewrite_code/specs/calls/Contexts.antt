@@ -6,10 +6,10 @@ use Rattle.rewrite_bodies.specs.Numbering.{helper_base}
 use Rattle.rewrite_bodies.specs.calls.Slots.{Landing, Ctx}
 use Rattle.rewrite_modules.specs.Weight.{types_used}
 
--- a function of this module: the types of its locals, the number of heights, its index, what it gives, and its landings
-abbrev pub context : Module → List ValType → ℕ → ℕ → Option ValType → List Landing → Ctx
-context m locals slots index gives landings =
-    record { source = m; base = helper_base m; helpers = types_used m; locals = locals; slots = slots; index = index; result = gives; landings = landings }
+-- a function of this module: the types of its locals, the number of heights, its index, what it gives, its landings, and the offsets that need a guard
+abbrev pub context : Module → List ValType → ℕ → ℕ → Option ValType → List Landing → List ℕ → Ctx
+context m locals slots index gives landings exposed =
+    record { source = m; base = helper_base m; helpers = types_used m; locals = locals; slots = slots; index = index; result = gives; landings = landings; exposed = exposed }
 
 -- all locals have numbers of 32 bits, those added too
 abbrev pub FewLocals : List ValType → ℕ → Type 0

@@ -9,7 +9,7 @@ use Rattle.operand_spill.proofs.noting.landings.Given as goal
 
 abbrev pub invariant-loop-pc : goal.invariant-loop-pc
 invariant-loop-pc l =
-    (C : Ctx) (targets : List ℕ) (tree : Tree) → C.locals ≡ l.locals → C.source ≡ l.source → Writes targets l.ops tree →
+    (C : Ctx) (targets : List ℕ) (tree : Tree) → C.locals ≡ l.locals → C.source ≡ l.source → C.exposed ≡ l.exposed → Writes targets l.ops tree →
     Gathers C (code_of targets l.ops) (before C tree.nodes) l.pc l.found (landings_from C [] tree.nodes []) × Proceeds C (code_of targets l.ops) (before C tree.nodes) l.pc l.walk
 
 abbrev pub decreases-loop-pc : goal.decreases-loop-pc

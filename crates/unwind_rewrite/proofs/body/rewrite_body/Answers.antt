@@ -31,9 +31,10 @@ write_body-requires-clause-tree c =
     let plan = c.args.plan.now in
     let b = c.body_at-body.result.now in
     let here = subst (λ (x : Module). body_of x f ≡ Some b) c.source-parts.ensures c.body_at-body.ensures in
+    let os = c.in_ok-guarded.guarded in
     let xs = c.in_ok-found.found in
-    let is = premises.planned_context m f plan xs c.new-context.ensures c.in_ok-locals.ensures c.types.ensures.types c.heights.ensures c.gives-result.ensures c.source-parts.ensures in
-    subst (λ (x : Ctx). CanBeWritten x b) (sym is) (premises.can m c.requires.accepted f b here plan c.requires.plan xs)
+    let is = premises.planned_context m f plan os xs c.new-context.ensures c.in_ok-locals.ensures c.types.ensures.types c.heights-heights.ensures c.gives-result.ensures c.source-parts.ensures in
+    subst (λ (x : Ctx). CanBeWritten x b) (sym is) (premises.can m c.requires.accepted f b here plan c.requires.plan os xs)
 
 pub write_body-requires-clause-low : goal.write_body-requires-clause-low
 write_body-requires-clause-low c =
@@ -42,10 +43,11 @@ write_body-requires-clause-low c =
     let plan = c.args.plan.now in
     let b = c.body_at-body.result.now in
     let here = subst (λ (x : Module). body_of x f ≡ Some b) c.source-parts.ensures c.body_at-body.ensures in
+    let os = c.in_ok-guarded.guarded in
     let xs = c.in_ok-found.found in
-    let is = premises.planned_context m f plan xs c.new-context.ensures c.in_ok-locals.ensures c.types.ensures.types c.heights.ensures c.gives-result.ensures c.source-parts.ensures in
-    let own = premises.own_landings m f plan b xs c.types-2.ensures.types c.source-parts.ensures c.as_slice.ensures c.in_ok-found.ensures in
-    subst LowLandings (sym is) (premises.low m c.requires.accepted f b here plan c.requires.plan xs own)
+    let is = premises.planned_context m f plan os xs c.new-context.ensures c.in_ok-locals.ensures c.types.ensures.types c.heights-heights.ensures c.gives-result.ensures c.source-parts.ensures in
+    let own = premises.own_landings m f plan b os xs c.types-2.ensures.types c.source-parts.ensures c.as_slice-2.ensures c.in_ok-found.ensures in
+    subst LowLandings (sym is) (premises.low m c.requires.accepted f b here plan c.requires.plan os xs own)
 
 pub returns-clause-code : goal.returns-clause-code
 returns-clause-code c =
@@ -54,10 +56,12 @@ returns-clause-code c =
     let plan = c.args.plan.now in
     let b = c.body_at-body.result.now in
     let here = subst (λ (x : Module). body_of x f ≡ Some b) c.source-parts.ensures c.body_at-body.ensures in
+    let os = c.in_ok-guarded.guarded in
     let xs = c.in_ok-found.found in
-    let is = premises.planned_context m f plan xs c.new-context.ensures c.in_ok-locals.ensures c.types.ensures.types c.heights.ensures c.gives-result.ensures c.source-parts.ensures in
-    let own = premises.own_landings m f plan b xs c.types-2.ensures.types c.source-parts.ensures c.as_slice.ensures c.in_ok-found.ensures in
-    premises.is_rewritten m f b here plan c.requires.plan xs own c.new-context.result is c.write_body.result c.write_body.ensures.code
+    let is = premises.planned_context m f plan os xs c.new-context.ensures c.in_ok-locals.ensures c.types.ensures.types c.heights-heights.ensures c.gives-result.ensures c.source-parts.ensures in
+    let own = premises.own_landings m f plan b os xs c.types-2.ensures.types c.source-parts.ensures c.as_slice-2.ensures c.in_ok-found.ensures in
+    let shown = premises.own_exposed b os c.as_slice.ensures c.in_ok-guarded.ensures in
+    premises.is_rewritten m f b here plan c.requires.plan os xs shown own c.new-context.result is c.write_body.result c.write_body.ensures.code
 
 pub returns-clause-promised : goal.returns-clause-promised
 returns-clause-promised c = λ a i old e there. premises.promised c.args.numbers.now c.args.func c.write_body.result (returns-clause-code c) a i old e there
@@ -70,3 +74,6 @@ returns-in_err-locals-clause-unwinds c = λ a heights are depth. unwinds (progra
 
 pub returns-in_err-found-clause-unwinds : goal.returns-in_err-found-clause-unwinds
 returns-in_err-found-clause-unwinds c = λ a heights are depth. unwinds (program_in c.args.numbers.now a) (module_given c.args.numbers.now a.premises) heights are depth
+
+pub returns-in_err-guarded-clause-unwinds : goal.returns-in_err-guarded-clause-unwinds
+returns-in_err-guarded-clause-unwinds c = λ a heights are depth. unwinds (program_in c.args.numbers.now a) (module_given c.args.numbers.now a.premises) heights are depth

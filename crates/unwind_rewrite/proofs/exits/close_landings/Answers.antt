@@ -1,4 +1,4 @@
-use Rattle.std.proofs.Common.{rules, ◌≡◌, ◌≤◌, ◌<◌, ◌-◌, length, map, subst, refl, arith}
+use Rattle.std.proofs.Common.{rules, ◌≤◌, ◌<◌, length, map, subst, refl, arith}
 use Rattle.std.proofs.lemmas.List.{length-map}
 use Rattle.rewrite_code.specs.calls.KeptLandings.{landing}
 use Rattle.unwind_rewrite.specs.calls.Bodies.{ClosesNested}

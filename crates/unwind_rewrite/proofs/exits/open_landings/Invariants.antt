@@ -1,4 +1,4 @@
-use Rattle.std.proofs.Common.{◌≡◌, ◌≤◌, length, map}
+use Rattle.std.proofs.Common.{◌≤◌, length, map}
 use Rattle.rewrite_code.specs.calls.KeptLandings.{landing}
 use Rattle.unwind_rewrite.proofs.Landings.{Opening}
 use Rattle.unwind_rewrite.proofs.exits.open_landings.Given as goal

@@ -1,4 +1,4 @@
-use Rattle.std.proofs.Common.{rules, ◌≡◌, ◌∙◌, ◌-◌, length, ap, ap₂}
+use Rattle.std.proofs.Common.{rules, ◌≡◌, ◌∙◌, ◌-◌, length, ap₂}
 use Rattle.rewrite_bodies.specs.calls.Landings.{number_of}
 use Rattle.rewrite_code.proofs.Same.{made_behind}
 use Rattle.rewrite_code.proofs.context.FunctionContext.landing_behind.Goals as goal

@@ -1,4 +1,4 @@
-use Rattle.std.proofs.Common.{rules, ◌≡◌, ◌∙◌, ◌-◌, length, ap, sym, refl, take, Some, option_map}
+use Rattle.std.proofs.Common.{◌∙◌, ◌-◌, length, ap, sym, refl, take, Some, option_map}
 use Rattle.rewrite_bodies.specs.calls.Landings.{number_of, number_in}
 use Rattle.rewrite_code.specs.calls.Places.{place}
 use Rattle.rewrite_code.specs.calls.KeptLandings.{made_landing}

@@ -1,4 +1,4 @@
-use Rattle.std.proofs.Common.{rules, ◌≡◌, ◌∙◌, ◌-◌, ap, sym, refl, option_map}
+use Rattle.std.proofs.Common.{◌∙◌, ap, sym, refl, option_map}
 use Rattle.rewrite_bodies.specs.calls.Landings.{with_some}
 use Rattle.rewrite_code.specs.calls.Places.{place}
 use Rattle.rewrite_code.proofs.Loads.{when_ok}

@@ -1,0 +1,218 @@
+//! What is known of the memory before an instruction: how many bytes from the value of a local on lie
+//! inside.
+
+ghost use Rattle.std.specs.Prelude.{◌≡◌, ◌==◌, ◌&&◌, ◌+◌, nat_le, [], map, Some, option_map, IfOk, OnOk};
+ghost use Rattle.rewrite_bodies.specs.calls.Facts.{is_local, others, answered, noted, shown, is_answered, reach};
+ghost use Rattle.operand_spill.specs.inner.Exposing.{fact, made, copies, held};
+
+use causes::NoMemory;
+use std::alloc::Global;
+use std::collections::BTreeSet;
+use std::marker::Model;
+use wasm_syntax::Basic;
+
+/// The most facts that are kept.
+const MOST: usize = 32;
+
+/// The bytes from the value of a local to this end, which is counted from there, lie inside the
+/// memory.
+#[derive(Clone, Copy)]
+pub struct KnownFact {
+    pub local: u32,
+    pub end: u64,
+}
+
+/// Whether a fact says that so many bytes lie inside.
+fn answers(found: KnownFact, local: u32, end: u64) -> bool
+    ensures { result ≡ ((found.local == local) && nat_le end found.end) }
+{
+    found.local == local && end <= found.end
+}
+
+/// Whether one of these does.
+fn is_known(items: &[KnownFact], local: u32, end: u64) -> bool
+    ensures { result ≡ answered (made local end) (map fact items.now) }
+{
+    for found in items {
+        if answers(*found, local, end) {
+            return true;
+        }
+    }
+    false
+}
+
+/// A copy of facts.
+fn copied(alloc: Global, items: &[KnownFact]) -> Result<Vec<KnownFact>, NoMemory>
+    ensures { IfOk result (λ copy. map fact copy.items ≡ map fact items.now) }
+{
+    let mut copy = Vec::new(alloc);
+    for found in items {
+        copy.push(*found)?;
+    }
+    Ok(copy)
+}
+
+/// Those on other locals than this one.
+fn unwritten(alloc: Global, items: &[KnownFact], local: u32) -> Result<Vec<KnownFact>, NoMemory>
+    ensures { IfOk result (λ left. map fact left.items
+        ≡ others (is_local (Some local)) (map fact items.now)) }
+{
+    let mut left = Vec::new(alloc);
+    for found in items {
+        if local != found.local {
+            left.push(*found)?;
+        }
+    }
+    Ok(left)
+}
+
+/// Whether a local is one of these.
+fn is_marked(marks: &BTreeSet<u32>, local: u32) -> bool
+    ensures { result ≡ held marks.now local }
+{
+    marks.contains(&local)
+}
+
+/// Those on none of these locals.
+fn unmarked(
+    alloc: Global,
+    items: &[KnownFact],
+    marks: &BTreeSet<u32>,
+) -> Result<Vec<KnownFact>, NoMemory>
+    ensures { IfOk result (λ left. map fact left.items
+        ≡ others (held marks.now) (map fact items.now)) }
+{
+    let mut left = Vec::new(alloc);
+    for found in items {
+        if !is_marked(marks, found.local) {
+            left.push(*found)?;
+        }
+    }
+    Ok(left)
+}
+
+/// Facts, which contracts see as a list.
+#[derive(Drop)]
+pub struct Facts {
+    alloc: Global,
+    items: Vec<KnownFact>,
+}
+
+impl Model for Facts {
+    ghost use Rattle.std.specs.Prelude.{List, map};
+    ghost use Rattle.rewrite_bodies.specs.calls.Facts.{Fact};
+    ghost use Rattle.operand_spill.specs.inner.Exposing.{fact};
+
+    ghost Value = { List Fact };
+
+    ghost view = { λ s. map fact s.items.items };
+}
+
+/// What an access shows of a local, with this offset and so many bytes.
+fn reach(local: Option<u32>, offset: u32, bytes: u32) -> Option<KnownFact>
+    ensures { option_map fact result ≡ reach local (offset + bytes) }
+{
+    match local {
+        Some(local) => Some(KnownFact {
+            local,
+            end: u64::from(offset) + u64::from(bytes),
+        }),
+        None => None,
+    }
+}
+
+/// What an instruction shows, where the two topmost operands are copies of these locals.
+pub fn shown(instruction: Basic, first: Option<u32>, second: Option<u32>) -> Option<KnownFact>
+    ensures { option_map fact result ≡ shown instruction (copies first second) }
+{
+    match instruction {
+        Basic::Load(load, _, offset) => reach(first, offset, load.bytes()),
+        Basic::Store(store, _, offset) => reach(second, offset, store.bytes()),
+        _ => None,
+    }
+}
+
+impl Facts {
+    /// None, which takes no memory.
+    pub fn new(alloc: Global) -> Self
+        ensures { result ≡ [] }
+    {
+        Facts {
+            alloc,
+            items: Vec::new(alloc),
+        }
+    }
+
+    /// None, in place of these.
+    pub fn none(&self) -> Self
+        ensures { result ≡ [] }
+    {
+        Facts::new(self.alloc)
+    }
+
+    /// Whether they answer for what an instruction shows.
+    pub fn answer(&self, shown: Option<KnownFact>) -> bool
+        ensures { result ≡ is_answered (option_map fact shown) self.now }
+    {
+        match shown {
+            Some(found) => is_known(self.items.as_slice(), found.local, found.end),
+            None => false,
+        }
+    }
+
+    /// One more, where it is not known yet, and there is room.
+    fn note_one(&mut self, found: KnownFact) -> Result<(), NoMemory>
+        ensures { OnOk result (self.new ≡ noted (Some (fact found)) self.old) }
+    {
+        if is_known(self.items.as_slice(), found.local, found.end) {
+            return Ok(());
+        }
+        if self.items.len() < MOST {
+            self.items.push(found)?;
+        }
+        Ok(())
+    }
+
+    /// What an instruction shows is noted.
+    pub fn note(&mut self, shown: Option<KnownFact>) -> Result<(), NoMemory>
+        ensures { OnOk result (self.new ≡ noted (option_map fact shown) self.old) }
+    {
+        match shown {
+            Some(found) => self.note_one(found),
+            None => Ok(()),
+        }
+    }
+
+    /// A copy.
+    pub fn copy(&self) -> Result<Facts, NoMemory>
+        ensures { IfOk result (λ copy. copy ≡ self.now) }
+    {
+        let items = copied(self.alloc, self.items.as_slice())?;
+        Ok(Facts {
+            alloc: self.alloc,
+            items,
+        })
+    }
+
+    /// Those on another local than the one that an instruction writes are kept.
+    pub fn free(&mut self, written: Option<u32>) -> Result<(), NoMemory>
+        ensures { OnOk result (self.new ≡ others (is_local written) self.old) }
+    {
+        match written {
+            Some(local) => self.items = unwritten(self.alloc, self.items.as_slice(), local)?,
+            None => {}
+        }
+        Ok(())
+    }
+
+    /// Those on none of these locals.
+    pub fn unmarked(&self, marks: &BTreeSet<u32>) -> Result<Facts, NoMemory>
+        ensures { IfOk result (λ left. left ≡ others (held marks.now) self.now) }
+    {
+        let items = unmarked(self.alloc, self.items.as_slice(), marks)?;
+        Ok(Facts {
+            alloc: self.alloc,
+            items,
+        })
+    }
+}

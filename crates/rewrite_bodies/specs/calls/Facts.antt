@@ -1,0 +1,133 @@
+-- Which instructions need a guard: those that can trap and that no fact answers. A fact says that so many bytes from the value of a local on lie
+-- inside the memory, which never gets shorter. An access whose address is a copy of the local shows one, and it answers a later one that ends no
+-- further, as long as the local is not written. In a block, and behind it, facts of what went in hold whose local no block of the function writes.
+use Rattle.std.specs.Prelude.{ℕ, ◌+◌, ◌/◌, ◌==◌, ◌&&◌, ◌||◌, nat_le, nat_lt, not, List, [], ◌∷◌, ◌++◌, length, Option, Some, None, Bool, true, false}
+use Rattle.wasm_syntax.specs.declared.instruction.Basic.{Basic}
+use Rattle.wasm_syntax.specs.declared.instruction.Basic.TheVariants.{LocalGet, Load, Store, Const}
+use Rattle.wasm_syntax.specs.Access.{load_bits, store_bits}
+use Rattle.wasm_syntax.specs.Tree.{Nodes, stop, basic, jump, block, loop, choose}
+use Rattle.rewrite_bodies.specs.calls.Slots.{Ctx, local_written}
+use Rattle.rewrite_bodies.specs.calls.Guards.{can_trap}
+
+-- ---- locals that are written
+
+abbrev pub is_local : Option ℕ → ℕ → Bool
+is_local None x = false
+is_local (Some y) x = y == x
+
+-- somewhere in these nodes
+abbrev pub written : Nodes → ℕ → Bool
+written stop x = false
+written (basic o i rest) x = is_local (local_written i) x || written rest x
+written (jump o j rest) x = written rest x
+written (block o t inner end rest) x = written inner x || written rest x
+written (loop o t inner end rest) x = written inner x || written rest x
+written (choose o t a else_at b end rest) x = written a x || (written b x || written rest x)
+
+-- in a block of these nodes
+abbrev pub frail : Nodes → ℕ → Bool
+frail stop x = false
+frail (basic o i rest) x = frail rest x
+frail (jump o j rest) x = frail rest x
+frail (block o t inner end rest) x = written inner x || frail rest x
+frail (loop o t inner end rest) x = written inner x || frail rest x
+frail (choose o t a else_at b end rest) x = written a x || (written b x || frail rest x)
+
+-- ---- facts
+
+-- the bytes from the value of a local to this end, which is counted from there, lie inside the memory
+pub record Fact : Type 0 where
+  pub local : ℕ
+  pub end : ℕ
+
+-- where these facts say so of a local
+abbrev pub answered : Fact → List Fact → Bool
+answered f [] = false
+answered f (g ∷ gs) = ((g.local == f.local) && nat_le f.end g.end) || answered f gs
+
+abbrev pub keep_if : Bool → Fact → List Fact → List Fact
+keep_if true f fs = f ∷ fs
+keep_if false f fs = fs
+
+-- those on none of these locals
+abbrev pub others : (ℕ → Bool) → List Fact → List Fact
+others these [] = []
+others these (f ∷ fs) = keep_if (not (these f.local)) f (others these fs)
+
+-- the most facts that are kept
+abbrev pub most_facts : ℕ
+most_facts = 32
+
+abbrev pub one_noted : Bool → Fact → List Fact → List Fact
+one_noted true f fs = fs ++ f ∷ []
+one_noted false f fs = fs
+
+-- ---- copies
+
+-- the locals of which the topmost operand and the one under it are copies
+pub record Copies : Type 0 where
+  pub first : Option ℕ
+  pub second : Option ℕ
+
+abbrev pub no_copies : Copies
+no_copies = record { first = None; second = None }
+
+abbrev pub copies_behind : Basic → Copies → Copies
+copies_behind (LocalGet x) c = record { first = Some x; second = c.first }
+copies_behind (Const v) c = record { first = None; second = c.first }
+copies_behind i c = no_copies
+
+-- ---- an instruction
+
+abbrev pub reach : Option ℕ → ℕ → Option Fact
+reach None n = None
+reach (Some x) n = Some (record { local = x; end = n })
+
+-- what an access shows
+abbrev pub shown : Basic → Copies → Option Fact
+shown (Load l align o) c = reach c.first (o + load_bits l / 8)
+shown (Store l align o) c = reach c.second (o + store_bits l / 8)
+shown i c = None
+
+abbrev pub is_answered : Option Fact → List Fact → Bool
+is_answered None fs = false
+is_answered (Some f) fs = answered f fs
+
+-- what is not known yet is noted, where there are not too many facts
+abbrev pub noted : Option Fact → List Fact → List Fact
+noted None fs = fs
+noted (Some f) fs = one_noted (not (answered f fs) && nat_lt (length fs) most_facts) f fs
+
+abbrev pub facts_behind : Basic → Copies → List Fact → List Fact
+facts_behind i c fs = others (is_local (local_written i)) (noted (shown i c) fs)
+
+-- ---- all of a function
+
+abbrev pub if_exposed : Bool → ℕ → List ℕ → List ℕ
+if_exposed true o os = o ∷ os
+if_exposed false o os = os
+
+-- the offsets of instructions that can trap and are not answered
+abbrev pub exposed_from : (ℕ → Bool) → List Fact → Copies → Nodes → List ℕ
+exposed_from these fs c stop = []
+exposed_from these fs c (basic o i rest) =
+    if_exposed (can_trap i && not (is_answered (shown i c) fs)) o (exposed_from these (facts_behind i c fs) (copies_behind i c) rest)
+exposed_from these fs c (jump o j rest) = exposed_from these fs no_copies rest
+exposed_from these fs c (block o t inner end rest) =
+    exposed_from these (others these fs) no_copies inner ++ exposed_from these (others these fs) no_copies rest
+exposed_from these fs c (loop o t inner end rest) =
+    exposed_from these (others these fs) no_copies inner ++ exposed_from these (others these fs) no_copies rest
+exposed_from these fs c (choose o t a else_at b end rest) =
+    let kept = others these fs in
+    exposed_from these kept no_copies a ++ (exposed_from these kept no_copies b ++ exposed_from these kept no_copies rest)
+
+abbrev pub exposed_in : Nodes → List ℕ
+exposed_in nodes = exposed_from (frail nodes) [] no_copies nodes
+
+abbrev pub among : ℕ → List ℕ → Bool
+among o [] = false
+among o (p ∷ ps) = (p == o) || among o ps
+
+-- an instruction needs a guard where it can trap, and no fact answers an instruction of its offset
+abbrev pub needs : Ctx → ℕ → Basic → Bool
+needs C o i = can_trap i && among o C.exposed
