@@ -9,7 +9,7 @@ use guard_insert::{guard, guard_unreachable, kind};
 use index_map::IndexMap;
 use machine_basics::{Globals, Performed, Shared, perform};
 use pm_text::{Items, Stack};
-use rewrite_code::{CodeWriter, FunctionContext, Landings, OperandPlace, OperandPlaces};
+use rewrite_code::{CodeWriter, FunctionContext, Landings, Offsets, OperandPlace, OperandPlaces};
 use std::alloc::Global;
 use std::test::Fail;
 use wasm_syntax::{Basic, Binary, Body, Instr, ValType, Value};
@@ -133,6 +133,7 @@ fn divisions_are_judged(alloc: Global, source: &Validated) -> Result<bool, NoMem
         0,
         Some(ValType::I32),
         Landings::new(alloc),
+        Offsets::new(alloc),
     );
     let judged = all_leave(alloc, &context)?;
     Ok(judged)

@@ -12,7 +12,9 @@ use causes::NoMemory;
 use guard_insert::guarded;
 use index_map::IndexMap;
 use pm_text::Items;
-use rewrite_code::{CodeWriter, FunctionContext, Landings, OperandPlace, OperandPlaces, drops};
+use rewrite_code::{
+    CodeWriter, FunctionContext, Landings, Offsets, OperandPlace, OperandPlaces, drops,
+};
 use std::alloc::Global;
 use std::test::Fail;
 use unwind_rewrite::{
@@ -471,10 +473,18 @@ fn two_locals(alloc: Global) -> Result<Items<ValType>, NoMemory>
     Ok(types)
 }
 
+// The division needs its guard.
+fn five(alloc: Global) -> Result<Offsets, NoMemory> {
+    let mut offsets = Offsets::new(alloc);
+    offsets.note(5)?;
+    Ok(offsets)
+}
+
 fn writes_pieces(alloc: Global, source: &Validated) -> Result<bool, NoMemory>
     requires { Sized source.now }
 {
     let locals = two_locals(alloc)?;
+    let guarded = five(alloc)?;
     let map = IndexMap::new(alloc, source.module())?;
     let context = FunctionContext::new(
         &map,
@@ -483,6 +493,7 @@ fn writes_pieces(alloc: Global, source: &Validated) -> Result<bool, NoMemory>
         1,
         Some(ValType::I32),
         Landings::new(alloc),
+        guarded,
     );
     let same = writes_all(alloc, &context)?;
     Ok(same)
