@@ -1,11 +1,12 @@
 //! The variables that are visible in a frame.
 
 ghost use Rattle.std.specs.Prelude.{◌≡◌, ◌++◌, flat_map, OnOk};
+ghost use Rattle.dwarf_scopes.specs.calls.Knowing.{AreFound};
 ghost use Rattle.debugger.specs.Variables as definitions;
 
 use causes::NoMemory;
 use dwarf_entries::{Standing, name_or_empty};
-use dwarf_scopes::variables_at;
+use dwarf_scopes::{KnownLocations, no_locations, variables_at};
 use pm_text::Text;
 use std::alloc::Global;
 use var_eval::{VariableFrame, push_variable};
@@ -17,13 +18,17 @@ fn push_line<'r, 'a>(
     alloc: Global,
     looks: &VariableFrame<'_, 'r, '_, '_, 'a>,
     variable: &Standing<'r, 'a>,
+    lists: &mut KnownLocations,
 ) -> Result<(), NoMemory>
-    ensures { OnOk result (out.new ≡ out.old ++ definitions.variable_line looks.now variable.now) }
+    requires right { AreFound looks.now.sections looks.now.address lists.old }
+    ensures line { OnOk result (out.new
+        ≡ out.old ++ definitions.variable_line looks.now variable.now) }
+    ensures right { AreFound looks.now.sections looks.now.address lists.new }
 {
     let units = looks.units();
     out.push_plain(name_or_empty(units, &variable.entry().attributes))?;
     out.push_str(" = ")?;
-    push_variable(alloc, out, looks, variable)?;
+    push_variable(alloc, out, looks, variable, lists)?;
     out.push_str("\n")
 }
 
@@ -36,8 +41,9 @@ fn push_lines<'r, 'a>(
     ensures { OnOk result (out.new
         ≡ out.old ++ flat_map (definitions.variable_line looks.now) variables.now) }
 {
+    let mut lists = no_locations(alloc);
     for variable in variables {
-        push_line(out, alloc, looks, variable)?;
+        push_line(out, alloc, looks, variable, &mut lists)?;
     }
     Ok(())
 }

@@ -3,3 +3,4 @@ pub mod Sought
 pub mod Standing
 pub mod Numbers
 pub mod Exact5
+pub mod SaidLaws

@@ -9,7 +9,8 @@ use Rattle.dwarf_loc.specs.declared.entry.ListEntry.{ListEntry}
 use Rattle.dwarf_loc.specs.declared.entry.ListEntry.TheVariants.{Base, FromBase, Between, Lasting, Otherwise}
 use Rattle.dwarf_loc.specs.declared.search.Search.{Search}
 use Rattle.dwarf_loc.specs.Lists.{held, held_by, holds, defaults, first_or}
-use Rattle.dwarf_loc.specs.inner.Search.{first_of, sought, taken}
+use Rattle.dwarf_loc.specs.calls.Said.{first_of}
+use Rattle.dwarf_loc.specs.inner.Search.{sought, taken}
 
 -- ---- one entry
 

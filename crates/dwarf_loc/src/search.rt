@@ -8,7 +8,8 @@ ghost use Rattle.dwarf_bytes.specs.Items.{ended_item, read_at};
 ghost use Rattle.dwarf_bytes.specs.calls.Answers.{found_at};
 ghost use Rattle.dwarf_loc.specs.declared.entry.ListEntry.{ListEntry as Listed};
 ghost use Rattle.dwarf_loc.specs.Lists.{held, holds, is_between, chosen};
-ghost use Rattle.dwarf_loc.specs.inner.Search.{first_of, holding, taken};
+ghost use Rattle.dwarf_loc.specs.calls.Said.{first_of};
+ghost use Rattle.dwarf_loc.specs.inner.Search.{holding, taken};
 
 use crate::entry::ListEntry;
 use dwarf_bytes::ReadFault;
@@ -41,7 +42,7 @@ struct Search<T> {
 }
 
 /// The first of two.
-fn first_of<T: Drop>(first: Option<T>, later: Option<T>) -> Option<T>
+pub fn first_of<T: Drop>(first: Option<T>, later: Option<T>) -> Option<T>
     ensures { result ≡ first_of first later }
 {
     match first {
@@ -51,7 +52,7 @@ fn first_of<T: Drop>(first: Option<T>, later: Option<T>) -> Option<T>
 }
 
 /// Sums of addresses are whole numbers.
-fn is_between(begin: u128, address: u32, end: u128) -> bool
+pub fn is_between(begin: u128, address: u32, end: u128) -> bool
     ensures { result ≡ is_between (begin, pos end) address }
 {
     let address = u128::from(address);

@@ -68,6 +68,22 @@ fn entry<C: Contents>(reader: &mut Reader<'_>) -> Result<Option<ListEntry<C::Val
     }))
 }
 
+/// The next entry of a location list of `.debug_loc`, or None at its end mark.
+pub fn location_entry(reader: &mut Reader<'_>) -> Result<Option<ListEntry<Span>>, Malformed>
+    ensures item { Reads result reader.new (entry4_item expression4_item reader.old) }
+    ensures moves { OnOk result (Moves reader.old reader.new) }
+{
+    entry::<Expression>(reader)
+}
+
+/// The next entry of a range list of `.debug_ranges`, or None at its end mark.
+pub fn range_entry(reader: &mut Reader<'_>) -> Result<Option<ListEntry<()>>, Malformed>
+    ensures item { Reads result reader.new (entry4_item nothing_item reader.old) }
+    ensures moves { OnOk result (Moves reader.old reader.new) }
+{
+    entry::<NoContents>(reader)
+}
+
 /// Of `.debug_loc`.
 struct Locations;
 
@@ -77,7 +93,7 @@ impl Entries for Locations {
     ghost item = { λ _. entry4_item expression4_item };
 
     fn read(&self, reader: &mut Reader<'_>) -> Result<Option<ListEntry<Span>>, Malformed> {
-        entry::<Expression>(reader)
+        location_entry(reader)
     }
 }
 
@@ -90,7 +106,7 @@ impl Entries for Ranges {
     ghost item = { λ _. entry4_item nothing_item };
 
     fn read(&self, reader: &mut Reader<'_>) -> Result<Option<ListEntry<()>>, Malformed> {
-        entry::<NoContents>(reader)
+        range_entry(reader)
     }
 }
 

@@ -1,6 +1,6 @@
 //! What lists say of an address.
 
-ghost use Rattle.std.specs.Prelude.{ℕ, ◌≡◌, ◌↔◌, List, Ok, Err, Option, is_some};
+ghost use Rattle.std.specs.Prelude.{ℕ, ◌≡◌, ◌↔◌, List, Ok, Err, Option, is_some, OnOk};
 ghost use Rattle.wasm_bytes.specs.calls.Answers.{Reads};
 ghost use Rattle.wasm_bytes.specs.Place.{Moves};
 ghost use Rattle.wasm_bytes.specs.Reading.{byte_item};
@@ -38,6 +38,42 @@ impl Contents for Expression {
     }
 }
 
+/// The next entry of a location list of `.debug_loclists`, or None at its end mark. Indices are
+/// those of the addresses.
+#[tactic(auto, unfolding(crate::specs::Version5::entry5_item))]
+pub fn loclist_entry(
+    addresses: &AddressTable<'_>,
+    reader: &mut Reader<'_>,
+) -> Result<Option<ListEntry<Span>>, Malformed>
+    ensures item { Reads result reader.new (entry5_item location_kind (address_of addresses.now)
+        expression5_item reader.old) }
+    ensures moves { OnOk result (Moves reader.old reader.new) }
+{
+    let at = reader.at();
+    match location_kind(reader.byte()?) {
+        Some(kind) => behind::<Expression>(kind, addresses, reader),
+        None => Err(Malformed { at }),
+    }
+}
+
+/// The next entry of a range list of `.debug_rnglists`, or None at its end mark. Indices are those
+/// of the addresses.
+#[tactic(auto, unfolding(crate::specs::Version5::entry5_item))]
+pub fn rnglist_entry(
+    addresses: &AddressTable<'_>,
+    reader: &mut Reader<'_>,
+) -> Result<Option<ListEntry<()>>, Malformed>
+    ensures item { Reads result reader.new (entry5_item range_kind (address_of addresses.now)
+        nothing_item reader.old) }
+    ensures moves { OnOk result (Moves reader.old reader.new) }
+{
+    let at = reader.at();
+    match range_kind(reader.byte()?) {
+        Some(kind) => behind::<NoContents>(kind, addresses, reader),
+        None => Err(Malformed { at }),
+    }
+}
+
 /// Of `.debug_loclists`.
 #[derive(Drop)]
 struct Locations<'r, 'a> {
@@ -50,13 +86,8 @@ impl<'r, 'a> Entries for Locations<'r, 'a> {
     ghost item = { λ lists. entry5_item location_kind (address_of lists.addresses.now)
         expression5_item };
 
-    #[tactic(auto, unfolding(crate::specs::Version5::entry5_item))]
     fn read(&self, reader: &mut Reader<'_>) -> Result<Option<ListEntry<Span>>, Malformed> {
-        let at = reader.at();
-        match location_kind(reader.byte()?) {
-            Some(kind) => behind::<Expression>(kind, self.addresses, reader),
-            None => Err(Malformed { at }),
-        }
+        loclist_entry(self.addresses, reader)
     }
 }
 
@@ -71,13 +102,8 @@ impl<'r, 'a> Entries for Ranges<'r, 'a> {
 
     ghost item = { λ lists. entry5_item range_kind (address_of lists.addresses.now) nothing_item };
 
-    #[tactic(auto, unfolding(crate::specs::Version5::entry5_item))]
     fn read(&self, reader: &mut Reader<'_>) -> Result<Option<ListEntry<()>>, Malformed> {
-        let at = reader.at();
-        match range_kind(reader.byte()?) {
-            Some(kind) => behind::<NoContents>(kind, self.addresses, reader),
-            None => Err(Malformed { at }),
-        }
+        rnglist_entry(self.addresses, reader)
     }
 }
 

@@ -4,3 +4,4 @@ pub mod StepLaws
 pub mod NumberLaws
 pub mod HolderLaws
 pub mod KnownLaws
+pub mod AskedLaws

@@ -1,4 +1,4 @@
 pub mod Picks
 pub mod Insides
-pub mod Knowing
+pub mod Passing
 pub mod Holding

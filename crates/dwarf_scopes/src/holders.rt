@@ -2,11 +2,11 @@
 
 ghost use Rattle.std.specs.Prelude.{◌≡◌, IfOk, find, slice_get, option_and_then};
 ghost use Rattle.dwarf_scopes.specs.Ranges as ranges;
-ghost use Rattle.dwarf_scopes.specs.inner.Knowing.{AreRight};
+ghost use Rattle.dwarf_scopes.specs.calls.Knowing.{AreRight};
 ghost use Rattle.dwarf_scopes.specs.inner.Holding.{bounds_in, is_listed, AreHolders};
 ghost use Rattle.dwarf_scopes.specs.calls.Numbered.{ranges_from, numbers_from, passes, is_before, first_or};
 
-use crate::known::KnownLists;
+use crate::asked::{KnownRanges, no_ranges};
 use crate::ranges::{bounds, holds_by_known};
 use crate::steps::{Range, Steps};
 use causes::NoMemory;
@@ -65,7 +65,7 @@ fn holds_at(
     entries: &[Standing<'_, '_>],
     index: usize,
     address: u32,
-    lists: &mut KnownLists,
+    lists: &mut KnownRanges,
 ) -> Result<bool, NoMemory>
     requires right { AreRight sections.now address lists.old }
     ensures is { IfOk result (λ held. held
@@ -95,7 +95,7 @@ fn first_or(
     address: u32,
     named: Option<usize>,
     numbers: &[usize],
-    lists: &mut KnownLists,
+    lists: &mut KnownRanges,
 ) -> Result<Option<usize>, NoMemory>
     requires right { AreRight sections.now address lists.old }
     ensures is { IfOk result (λ number. number ≡ first_or
@@ -141,7 +141,7 @@ impl Holders {
         requires { AreHolders entries.now self.now }
         ensures { IfOk result (λ x. x ≡ find (ranges.holds sections.now address) entries.now) }
     {
-        let mut lists = KnownLists::new(alloc);
+        let mut lists = no_ranges(alloc);
         let named = self.bounded.at(address);
         let listed = self.listed.as_slice();
         let number = first_or(sections, entries, address, named, listed, &mut lists)?;

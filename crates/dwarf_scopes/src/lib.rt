@@ -2,8 +2,10 @@
 //! there.
 #![tactic(auto)]
 
+mod asked;
 mod holders;
 mod insides;
+mod kinds;
 mod known;
 mod lists;
 mod ranges;
@@ -12,6 +14,7 @@ mod steps;
 mod subprograms;
 mod variables;
 
+pub use asked::{KnownLocations, known_location_in, no_locations};
 pub use lists::{location_in, range_in};
 pub use scopes::{inlined_at, scopes_at};
 pub use steps::{Range, Steps};

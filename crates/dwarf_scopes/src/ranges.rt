@@ -2,14 +2,13 @@
 
 ghost use Rattle.std.specs.Prelude.{ℕ, ◌≡◌, IfOk};
 ghost use Rattle.dwarf_scopes.specs.Ranges as ranges;
-ghost use Rattle.dwarf_scopes.specs.inner.Knowing.{AreRight};
+ghost use Rattle.dwarf_scopes.specs.calls.Knowing.{AreRight};
 
-use crate::known::{KnownLists, in_list_if};
-use crate::lists::range_in;
+use crate::asked::{KnownRanges, in_list_if};
 use causes::NoMemory;
 use dwarf_entries::names::{HIGH_PC, LOW_PC, RANGES};
 use dwarf_entries::{Standing, address, attribute, offset};
-use dwarf_info::{AttrValue, Entry, Sections5, Unit};
+use dwarf_info::{AttrValue, Entry, Sections5};
 
 /// Where the addresses end of an entry that begins there. A constant counts from the begin.
 fn high_from(low: u32, high: &AttrValue<'_>) -> Option<i128>
@@ -39,23 +38,13 @@ pub fn bounds(entry: &Entry<'_>) -> Option<(u32, i128)>
     bounds_from(entry, low)
 }
 
-/// A list that can't be read holds no address.
-pub fn in_list(sections: &Sections5<'_>, unit: &Unit<'_>, address: u32, at: Option<u32>) -> bool
-    ensures { result ≡ ranges.in_list sections.now unit.now address at }
-{
-    match at {
-        Some(at) => range_in(sections, unit, at as usize, address).unwrap_or(false),
-        None => false,
-    }
-}
-
 /// Whether an entry holds an address: from its low_pc up to but not including its high_pc, where it
 /// has both, else by its list, where lists of the unit were asked before.
 pub fn holds_by_known(
     sections: &Sections5<'_>,
     address: u32,
     standing: &Standing<'_, '_>,
-    lists: &mut KnownLists,
+    lists: &mut KnownRanges,
 ) -> Result<bool, NoMemory>
     requires right { AreRight sections.now address lists.old }
     ensures is { IfOk result (λ held. held ≡ ranges.holds sections.now address standing.now) }

@@ -4,10 +4,10 @@
 ghost use Rattle.std.specs.Prelude.{ℕ, ◌≡◌, ◌++◌, OnOk, IfOk, filter, reverse};
 ghost use Rattle.dwarf_entries.specs.Standing.{Standing as Stands, standing_in};
 ghost use Rattle.dwarf_scopes.specs.Scopes as scopes;
-ghost use Rattle.dwarf_scopes.specs.inner.Knowing.{AreRight};
+ghost use Rattle.dwarf_scopes.specs.calls.Knowing.{AreRight};
 ghost use Rattle.dwarf_scopes.specs.inner.Picks.{is_scope, is_inlined};
 
-use crate::known::KnownLists;
+use crate::asked::{KnownRanges, no_ranges};
 use crate::ranges::holds_by_known;
 use crate::subprograms::subprogram_at;
 use causes::NoMemory;
@@ -44,7 +44,7 @@ impl<'s, 'a> ScopeAt<'s, 'a> {
     pub fn picks(
         &self,
         standing: &Standing<'_, '_>,
-        lists: &mut KnownLists,
+        lists: &mut KnownRanges,
     ) -> Result<bool, NoMemory>
         requires right { AreRight self.now.sections.now self.now.address
             lists.old }
@@ -66,7 +66,7 @@ fn push_scopes<'r, 'a>(
     pick: &ScopeAt<'_, 'a>,
     unit: &'r Unit<'a>,
     entries: &'r [Entry<'a>],
-    lists: &mut KnownLists,
+    lists: &mut KnownRanges,
     found: &mut Items<Standing<'r, 'a>>,
 ) -> Result<(), NoMemory>
     requires { AreRight pick.now.sections.now pick.now.address lists.old }
@@ -102,7 +102,7 @@ pub fn scopes_in<'r, 'a>(
         &ScopeAt { sections, address },
         unit,
         inside,
-        &mut KnownLists::new(alloc),
+        &mut no_ranges(alloc),
         &mut scopes,
     )?;
     Ok(scopes)

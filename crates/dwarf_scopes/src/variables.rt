@@ -5,11 +5,11 @@ ghost use Rattle.std.specs.Prelude.{filter, flat_map, if◌then◌else◌};
 ghost use Rattle.dwarf_entries.specs.Standing.{stands, standing_in};
 ghost use Rattle.dwarf_scopes.specs.Scopes as scopes;
 ghost use Rattle.dwarf_scopes.specs.inner.Insides.{deeper, insides};
-ghost use Rattle.dwarf_scopes.specs.inner.Knowing.{AreRight};
+ghost use Rattle.dwarf_scopes.specs.calls.Knowing.{AreRight};
 ghost use Rattle.dwarf_scopes.specs.inner.Picks.{is_variable_of};
 
+use crate::asked::{KnownRanges, no_ranges};
 use crate::insides::insides_of;
-use crate::known::KnownLists;
 use crate::scopes::ScopeAt;
 use crate::subprograms::subprogram_at;
 use causes::NoMemory;
@@ -147,7 +147,7 @@ fn push_if_scope<'r, 'a>(
     entry: &'r Entry<'a>,
     behind: &'r [Entry<'a>],
     counted: &Counted<'_>,
-    lists: &mut KnownLists,
+    lists: &mut KnownRanges,
     variables: &mut Items<Standing<'r, 'a>>,
 ) -> Result<(), NoMemory>
     requires right { AreRight pick.now.sections.now pick.now.address lists.old }
@@ -178,7 +178,7 @@ fn push_scopes<'r, 'a>(
     unit: &'r Unit<'a>,
     entries: &'r [Entry<'a>],
     counts: &[usize],
-    lists: &mut KnownLists,
+    lists: &mut KnownRanges,
     variables: &mut Items<Standing<'r, 'a>>,
 ) -> Result<(), NoMemory>
     requires right { AreRight pick.now.sections.now pick.now.address lists.old }
@@ -235,7 +235,7 @@ fn variables_in<'r, 'a>(
         unit,
         entries,
         counts.as_slice(),
-        &mut KnownLists::new(alloc),
+        &mut no_ranges(alloc),
         &mut variables,
     )?;
     Ok(variables)

@@ -1,4 +1,3 @@
-pub mod Found
 pub mod ShownLaws
 mod Stops
 mod Places

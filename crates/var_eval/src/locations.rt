@@ -2,7 +2,7 @@
 
 ghost use Rattle.std.specs.Prelude.{◌≡◌, ◌<◌, ◌^◌, IfOk, Some, length, take, drop};
 ghost use Rattle.dwarf_info.specs.declared.entry.AttrValue.TheVariants.{Offset};
-ghost use Rattle.dwarf_scopes.specs.Lists.{location_in as entry_in};
+ghost use Rattle.dwarf_scopes.specs.calls.Knowing.{AreFound};
 ghost use Rattle.dwarf5_info.specs.Units.{plain_of};
 ghost use Rattle.dwarf_expr.specs.FrameBase.{frame_base as base_given};
 ghost use Rattle.var_eval.specs.Locations as locations;
@@ -17,7 +17,7 @@ use dwarf_expr::{
 };
 use dwarf_info::{AttrValue, Sections5, Unit};
 use dwarf_loc::Span;
-use dwarf_scopes::location_in;
+use dwarf_scopes::{KnownLocations, known_location_in, no_locations};
 use dwarf5_info::plain_expr;
 use int_ops::wrap;
 use std::alloc::Global;
@@ -64,30 +64,32 @@ fn lists_of<'a>(sections: &Sections5<'a>, unit: &Unit<'a>) -> &'a [u8]
     }
 }
 
-/// The entry of a list that counts for an address, where a list stands at the offset.
-fn entry_at<'a>(
-    sections: &Sections5<'a>,
-    unit: &Unit<'a>,
-    at: u32,
-    address: u32,
-) -> Option<Option<Span>>
-    ensures { result ≡ entry_in sections.now unit.now at address }
+/// What an entry of a list of a section says; none where no list stands there.
+fn said_by<'a>(section: &'a [u8], entry: Option<Option<Span>>) -> Located<'a>
+    ensures { result ≡ locations.in_list section.now entry }
 {
-    match location_in(sections, unit, at as usize, address) {
-        Ok(entry) => Some(entry),
-        Err(_) => None,
+    match entry {
+        Some(Some(span)) => Located::Expression(Run::new(spanned(section, span))),
+        Some(None) => Located::NoEntry,
+        None => Located::Unreadable,
     }
 }
 
 /// What the list at an offset says of an address.
-fn in_list<'a>(sections: &Sections5<'a>, unit: &Unit<'a>, at: u32, address: u32) -> Located<'a>
-    ensures { result ≡ locations.located_by sections.now address unit.now (Some (Offset at)) }
+fn in_list<'a>(
+    sections: &Sections5<'a>,
+    unit: &Unit<'a>,
+    at: u32,
+    address: u32,
+    lists: &mut KnownLocations,
+) -> Result<Located<'a>, NoMemory>
+    requires right { AreFound sections.now address lists.old }
+    ensures is { IfOk result (λ located. located
+        ≡ locations.located_by sections.now address unit.now (Some (Offset at))) }
+    ensures right { AreFound sections.now address lists.new }
 {
-    match entry_at(sections, unit, at, address) {
-        Some(Some(span)) => Located::Expression(Run::new(spanned(lists_of(sections, unit), span))),
-        Some(None) => Located::NoEntry,
-        None => Located::Unreadable,
-    }
+    let entry = known_location_in(sections, unit, at, address, lists)?;
+    Ok(said_by(lists_of(sections, unit), entry))
 }
 
 /// What the attribute of a name says of an address.
@@ -96,13 +98,17 @@ fn located<'r, 'a>(
     address: u32,
     standing: &Standing<'r, 'a>,
     name: u64,
-) -> Located<'a>
-    ensures { result ≡ locations.located sections.now address standing.now name }
+    lists: &mut KnownLocations,
+) -> Result<Located<'a>, NoMemory>
+    requires right { AreFound sections.now address lists.old }
+    ensures is { IfOk result (λ located. located
+        ≡ locations.located sections.now address standing.now name) }
+    ensures right { AreFound sections.now address lists.new }
 {
     match attribute(&standing.entry().attributes, name) {
-        Some(AttrValue::Block(expr)) => Located::Expression(Run::new(expr.as_slice())),
-        Some(AttrValue::Offset(at)) => in_list(sections, standing.unit(), at, address),
-        _ => Located::Unsaid,
+        Some(AttrValue::Block(expr)) => Ok(Located::Expression(Run::new(expr.as_slice()))),
+        Some(AttrValue::Offset(at)) => in_list(sections, standing.unit(), at, address, lists),
+        _ => Ok(Located::Unsaid),
     }
 }
 
@@ -168,7 +174,9 @@ pub fn base_in<'r, 'a>(
     let Some(subprogram) = subprogram else {
         return Ok(Base::Absent);
     };
-    match located(sections, address, subprogram, FRAME_BASE) {
+    let mut lists = no_locations(alloc);
+    let located = located(sections, address, subprogram, FRAME_BASE, &mut lists)?;
+    match located {
         Located::Expression(expr) => {
             base_meant(alloc, sections, subprogram.unit(), view, expr.as_slice())
         }
@@ -239,10 +247,15 @@ pub fn source_of<'r, 'a>(
     alloc: Global,
     frame: &VariableFrame<'_, '_, '_, '_, 'a>,
     variable: &Standing<'r, 'a>,
+    lists: &mut KnownLocations,
 ) -> Result<Source, NoMemory>
-    ensures { IfOk result (λ source. source ≡ locations.variable_source frame.now variable.now) }
+    requires right { AreFound frame.now.sections frame.now.address lists.old }
+    ensures is { IfOk result (λ source. source
+        ≡ locations.variable_source frame.now variable.now) }
+    ensures right { AreFound frame.now.sections frame.now.address lists.new }
 {
-    match located(frame.sections(), frame.address(), variable, LOCATION) {
+    let located = located(frame.sections(), frame.address(), variable, LOCATION, lists)?;
+    match located {
         Located::Expression(expr) => source_by(alloc, frame, variable.unit(), expr.as_slice()),
         Located::NoEntry => Ok(Source::Lost(Mark::OptimisedOut)),
         Located::Unreadable => Ok(Source::Lost(Mark::BadExpression)),

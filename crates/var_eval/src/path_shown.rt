@@ -10,6 +10,7 @@ use causes::NoMemory;
 use dwarf_entries::Standing;
 use dwarf_expr::FrameView;
 use dwarf_info::Units;
+use dwarf_scopes::no_locations;
 use dwarf_types::type_of;
 use pm_text::Text;
 use std::alloc::Global;
@@ -59,7 +60,8 @@ fn shown_behind<'r, 'a>(
         shown ≡ shown_as (definitions.steps_text frame.now steps.now variable.now)) }
 {
     let units = frame.units();
-    let source = source_of(alloc, frame, variable)?;
+    let mut lists = no_locations(alloc);
+    let source = source_of(alloc, frame, variable, &mut lists)?;
     let typed = type_of(units, &variable.entry().attributes);
     let reached = walk(alloc, units, frame.view(), steps, typed, source)?;
     match reached {

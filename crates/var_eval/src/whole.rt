@@ -1,6 +1,7 @@
 //! Whole variables.
 
 ghost use Rattle.std.specs.Prelude.{◌≡◌, ◌++◌, IfOk, OnOk};
+ghost use Rattle.dwarf_scopes.specs.calls.Knowing.{AreFound};
 ghost use Rattle.var_values.specs.Values.{in_place};
 ghost use Rattle.var_values.specs.calls.Told.{Tells};
 ghost use Rattle.var_eval.specs.Shown as shown;
@@ -10,6 +11,7 @@ use crate::locations::source_of;
 use crate::shown::Shown;
 use causes::NoMemory;
 use dwarf_entries::{Standing, standing_at};
+use dwarf_scopes::{KnownLocations, no_locations};
 use dwarf_types::type_of;
 use pm_text::Text;
 use std::alloc::Global;
@@ -22,11 +24,14 @@ fn push_whole<'r, 'a>(
     text: &mut Text,
     frame: &VariableFrame<'_, 'r, '_, '_, 'a>,
     variable: &Standing<'r, 'a>,
+    lists: &mut KnownLocations,
 ) -> Result<Option<Mark>, NoMemory>
-    ensures { IfOk result (λ mark. Tells (shown.variable_text frame.now variable.now) mark
+    requires right { AreFound frame.now.sections frame.now.address lists.old }
+    ensures told { IfOk result (λ mark. Tells (shown.variable_text frame.now variable.now) mark
         text.old text.new) }
+    ensures right { AreFound frame.now.sections frame.now.address lists.new }
 {
-    let source = source_of(alloc, frame, variable)?;
+    let source = source_of(alloc, frame, variable, lists)?;
     let units = frame.units();
     let typed = type_of(units, &variable.entry().attributes);
     let place = Place {
@@ -43,11 +48,14 @@ pub fn push_variable<'r, 'a>(
     text: &mut Text,
     frame: &VariableFrame<'_, 'r, '_, '_, 'a>,
     variable: &Standing<'r, 'a>,
+    lists: &mut KnownLocations,
 ) -> Result<(), NoMemory>
-    ensures { OnOk result (text.new
+    requires right { AreFound frame.now.sections frame.now.address lists.old }
+    ensures text { OnOk result (text.new
         ≡ text.old ++ in_place (shown.variable_text frame.now variable.now)) }
+    ensures right { AreFound frame.now.sections frame.now.address lists.new }
 {
-    match push_whole(alloc, text, frame, variable)? {
+    match push_whole(alloc, text, frame, variable, lists)? {
         Some(mark) => text.push_str(mark.text()),
         None => Ok(()),
     }
@@ -62,7 +70,8 @@ fn shown_whole<'r, 'a>(
     ensures { IfOk result (λ s. s ≡ shown.shown_as (shown.variable_text frame.now variable.now)) }
 {
     let mut text = Text::new(alloc);
-    match push_whole(alloc, &mut text, frame, variable)? {
+    let mut lists = no_locations(alloc);
+    match push_whole(alloc, &mut text, frame, variable, &mut lists)? {
         Some(mark) => Ok(Shown::Marked(mark)),
         None => Ok(Shown::Text(text)),
     }

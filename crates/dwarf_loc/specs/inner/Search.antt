@@ -4,11 +4,7 @@ use Rattle.dwarf_loc.specs.declared.entry.ListEntry.{ListEntry}
 use Rattle.dwarf_loc.specs.declared.entry.ListEntry.TheVariants.{Base, FromBase, Between, Lasting, Otherwise}
 use Rattle.dwarf_loc.specs.declared.search.Search.{Search}
 use Rattle.dwarf_loc.specs.Lists.{held, held_by, holds, defaults, first_or}
-
--- the first of two
-abbrev pub first_of : {A : Type 0} → Option A → Option A → Option A
-first_of (Some x) later = Some x
-first_of None later = later
+use Rattle.dwarf_loc.specs.calls.Said.{first_of}
 
 -- what a list answers, of which the front was read
 abbrev pub sought : {A : Type 0} → Search A → List (ListEntry A) → Option A

@@ -1,7 +1,7 @@
 use Rattle.std.proofs.Common.{◌≡◌, drop}
 use Rattle.std.specs.Prelude.{slice_get}
 use Rattle.dwarf_scopes.specs.Ranges.{holds}
-use Rattle.dwarf_scopes.specs.inner.Knowing.{AreRight}
+use Rattle.dwarf_scopes.specs.calls.Knowing.{AreRight}
 use Rattle.dwarf_scopes.specs.calls.Numbered.{passes, first_or}
 use Rattle.dwarf_scopes.proofs.holders.first_or.Given as goal
 

@@ -2,7 +2,7 @@ use Rattle.std.proofs.Common.{◌≡◌, ◌++◌, length}
 use Rattle.std.specs.Prelude.{filter}
 use Rattle.dwarf_entries.specs.Standing.{standing_in}
 use Rattle.dwarf_scopes.specs.Scopes.{is_scope_at}
-use Rattle.dwarf_scopes.specs.inner.Knowing.{AreRight}
+use Rattle.dwarf_scopes.specs.calls.Knowing.{AreRight}
 use Rattle.dwarf_scopes.proofs.scopes.push_scopes.Given as goal
 
 abbrev pub invariant-entries : goal.invariant-entries

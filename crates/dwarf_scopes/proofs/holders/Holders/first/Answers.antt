@@ -7,7 +7,7 @@ use Rattle.dwarf_scopes.proofs.HolderLaws.{first_is}
 use Rattle.dwarf_scopes.proofs.holders.Holders.first.Goals as goal
 
 pub first_or-requires : goal.first_or-requires
-first_or-requires c = record { right = c.new-lists.ensures c.args.sections.now c.args.address }
+first_or-requires c = record { right = c.no_ranges-lists.ensures c.args.sections.now c.args.address }
 
 pub returns : goal.returns
 returns c =

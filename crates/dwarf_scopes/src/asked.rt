@@ -1,0 +1,96 @@
+//! What the lists of units say of one address, asked again and again.
+
+ghost use Rattle.std.specs.Prelude.{ℕ, ◌≡◌, Some, IfOk};
+ghost use Rattle.dwarf_info.specs.Sections.{SectionBytes5};
+ghost use Rattle.dwarf_scopes.specs.Lists.{location_in as entry_in};
+ghost use Rattle.dwarf_scopes.specs.Ranges as ranges;
+ghost use Rattle.dwarf_scopes.specs.calls.Knowing.{AreRight, AreFound, held_in};
+
+use crate::kinds::{LocationLists, RangeLists};
+use crate::known::{KnownLists, chosen_in};
+use causes::NoMemory;
+use dwarf_info::{Sections5, Unit};
+use dwarf_loc::Span;
+use std::alloc::Global;
+
+/// What range lists say.
+pub type KnownRanges = KnownLists<()>;
+
+/// What location lists say.
+pub type KnownLocations = KnownLists<Span>;
+
+/// No range list was asked yet.
+pub fn no_ranges(alloc: Global) -> KnownRanges
+    ensures { (s : SectionBytes5) (address : ℕ) → AreRight s address result }
+{
+    KnownLists::new(alloc)
+}
+
+/// No location list was asked yet.
+pub fn no_locations(alloc: Global) -> KnownLocations
+    ensures { (s : SectionBytes5) (address : ℕ) → AreFound s address result }
+{
+    KnownLists::new(alloc)
+}
+
+/// A list that can't be read holds no address.
+fn held_in(chosen: Option<Option<()>>) -> bool
+    ensures { result ≡ held_in chosen }
+{
+    match chosen {
+        Some(chosen) => chosen.is_some(),
+        None => false,
+    }
+}
+
+/// Whether the list at an offset holds the address.
+fn in_list(
+    sections: &Sections5<'_>,
+    unit: &Unit<'_>,
+    address: u32,
+    at: u32,
+    lists: &mut KnownRanges,
+) -> Result<bool, NoMemory>
+    requires right { AreRight sections.now address lists.old }
+    ensures is { IfOk result (λ held. held
+        ≡ ranges.in_list sections.now unit.now address (Some at)) }
+    ensures right { AreRight sections.now address lists.new }
+{
+    let chosen = chosen_in::<RangeLists>(sections, unit, address, at, lists)?;
+    Ok(held_in(chosen))
+}
+
+/// Whether the list at an offset, if there is one, holds the address.
+pub fn in_list_if(
+    sections: &Sections5<'_>,
+    unit: &Unit<'_>,
+    address: u32,
+    at: Option<u32>,
+    lists: &mut KnownRanges,
+) -> Result<bool, NoMemory>
+    requires right { AreRight sections.now address lists.old }
+    ensures is { IfOk result (λ held. held ≡ ranges.in_list sections.now unit.now address at) }
+    ensures right { AreRight sections.now address lists.new }
+{
+    match at {
+        Some(at) => in_list(sections, unit, address, at, lists),
+        None => Ok(false),
+    }
+}
+
+/// The expression of the entry of a location list that counts for an address, as `location_in` gives
+/// it; none where no list stands there.
+pub fn known_location_in(
+    sections: &Sections5<'_>,
+    unit: &Unit<'_>,
+    at: u32,
+    address: u32,
+    lists: &mut KnownLocations,
+) -> Result<Option<Option<Span>>, NoMemory>
+    requires right { AreFound sections.now address lists.old }
+    ensures is { IfOk result (λ found. found ≡ entry_in sections.now unit.now at address) }
+    ensures right { AreFound sections.now address lists.new }
+{
+    let found = chosen_in::<LocationLists>(sections, unit, address, at, lists)?;
+    Ok(found)
+}
