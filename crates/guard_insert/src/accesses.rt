@@ -1,7 +1,9 @@
 //! Guards of accesses to the memory.
 
 ghost use Rattle.std.specs.Prelude.{◌≡◌, ◌+◌, ◌≤◌, OnOk};
-ghost use Rattle.rewrite_bodies.specs.calls.Guards.{memory_length, past_end, out_test, guard_memory, range_test, guard_copy, guard_fill};
+ghost use Rattle.rewrite_bodies.specs.calls.Guards.{memory_length, past_end, out_test};
+ghost use Rattle.rewrite_bodies.specs.calls.Guards.{guard_memory, range_test, guard_copy};
+ghost use Rattle.rewrite_bodies.specs.calls.Guards.{guard_fill};
 ghost use Rattle.rewrite_code.specs.calls.Writing.{Emits};
 ghost use Rattle.rewrite_code.specs.calls.Places.{place};
 

@@ -1,7 +1,7 @@
 //! Which instructions have a guard, and which one.
 
 ghost use Rattle.std.specs.Prelude.{◌≡◌, ◌+◌, ◌^◌, ◌<◌, ◌≤◌, true, length, Some, None, OnOk};
-ghost use Rattle.rewrite_bodies.specs.calls.Guards.{can_trap, divides, guard, kind};
+ghost use Rattle.rewrite_bodies.specs.calls.Guards.{can_trap, guard, kind};
 ghost use Rattle.rewrite_bodies.specs.calls.Pieces.{const, i32};
 ghost use Rattle.rewrite_bodies.specs.calls.Facts.{needs};
 ghost use Rattle.rewrite_bodies.specs.calls.Landings.{most_landings};
@@ -19,28 +19,8 @@ ghost use Rattle.guard_insert.specs.calls.Meaning.{Writes};
 use crate::accesses::{guard_copy, guard_fill, guard_memory};
 use crate::division::{guard_signed, guard_zero, kind_signed};
 use causes::NoMemory;
-use rewrite_code::{CodeWriter, FunctionContext, OperandPlaces};
+use rewrite_code::{CodeWriter, FunctionContext, OperandPlaces, can_trap};
 use wasm_syntax::{Basic, Binary, Load, Store, ValType, Value};
-
-fn divides(operator: Binary) -> bool
-    ensures { result ≡ divides operator }
-{
-    matches!(
-        operator,
-        Binary::DivS | Binary::DivU | Binary::RemS | Binary::RemU
-    )
-}
-
-/// Whether an instruction can trap.
-pub fn can_trap(instruction: &Basic) -> bool
-    ensures { result ≡ can_trap instruction.now }
-{
-    match *instruction {
-        Basic::Binary(_, operator) => divides(operator),
-        Basic::Load(..) | Basic::Store(..) | Basic::MemoryCopy | Basic::MemoryFill => true,
-        _ => false,
-    }
-}
 
 /// Whether the instruction at an offset of a function has a guard: where it can trap, and nothing
 /// answers for it.
@@ -393,7 +373,7 @@ pub fn guarded(
     if !needs(context, offset, instruction) {
         return Ok(());
     }
-    match context.landing_of(instruction, places) {
+    match context.landing_of(offset, instruction, places) {
         Some(number) => {
             guarded_by_landing(context, writer, labels, places, offset, instruction, number)
         }

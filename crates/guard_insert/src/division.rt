@@ -1,7 +1,8 @@
 //! Guards of divisions and remainders.
 
 ghost use Rattle.std.specs.Prelude.{◌≡◌, ◌+◌, ◌≤◌, OnOk};
-ghost use Rattle.rewrite_bodies.specs.calls.Guards.{least, minus_one, guard_zero, overflow_test, guard_signed, kind_signed};
+ghost use Rattle.rewrite_bodies.specs.calls.Guards.{least, minus_one, guard_zero, overflow_test};
+ghost use Rattle.rewrite_bodies.specs.calls.Guards.{guard_signed, kind_signed};
 ghost use Rattle.rewrite_code.specs.calls.Writing.{Emits};
 ghost use Rattle.rewrite_code.specs.calls.Places.{place};
 

@@ -11,8 +11,8 @@ use Rattle.wasm_syntax.specs.declared.instruction.Basic.{Basic}
 use Rattle.wasm_syntax.specs.Tree.{Tree, Nodes, stop, basic, jump, block, loop, choose, Item, Plain, Goes, Opens, OpensLoop, OpensIf, Else, End, Placed, placed, write, IsTree, Writes, code_of, item_of}
 use Rattle.rewrite_bodies.specs.calls.Slots.{local_written}
 use Rattle.rewrite_bodies.specs.calls.Guards.{can_trap}
-use Rattle.rewrite_bodies.specs.calls.Facts.{Fact, Copies, no_copies, is_local, written, frail, others, keep_if, copies_behind, facts_behind, shown, is_answered, if_exposed, exposed_from}
-use Rattle.operand_spill.specs.inner.Exposing.{fact, held, deeper, marked_by, marked_along, Here, here, passed, is_exposed, one_more, exposed_along}
+use Rattle.rewrite_bodies.specs.calls.Facts.{Base, Zero, Local, is_on, Fact, Copies, no_copies, is_local, written, frail, others, keep_if, copies_behind, facts_behind, shown, is_answered, if_exposed, exposed_from}
+use Rattle.operand_spill.specs.inner.Exposing.{base_of, fact, held, deeper, marked_by, marked_along, Here, here, passed, is_exposed, one_more, exposed_along}
 use Rattle.operand_spill.specs.declared.facts.KnownFact.{KnownFact}
 
 -- ---- booleans
@@ -201,16 +201,16 @@ module _ (these : ℕ → Bool) where
       ∙ two_parts (passed these (here [] no_copies saved) e) more (os ++ a) b d
       ∙ two_parts (passed these (here [] no_copies saved) e) more os a (b ++ d)
 
-  pub exposed_begin : (targets : List ℕ) (ops : List Op) (tree : Tree) → Writes targets ops tree → exposed_along these (here [] no_copies []) (code_of targets ops) [] ≡ exposed_from these [] no_copies tree.nodes
-  exposed_begin targets ops tree w = ap (λ code. exposed_along these (here [] no_copies []) code []) w.out ∙ gives [] no_copies [] tree.nodes End tree.end [] [] w.arms quiet_end end_restores
+  pub exposed_begin : (fs : List Fact) (targets : List ℕ) (ops : List Op) (tree : Tree) → Writes targets ops tree → exposed_along these (here fs no_copies []) (code_of targets ops) [] ≡ exposed_from these fs no_copies tree.nodes
+  exposed_begin fs targets ops tree w = ap (λ code. exposed_along these (here fs no_copies []) code []) w.out ∙ gives fs no_copies [] tree.nodes End tree.end [] [] w.arms quiet_end end_restores
 
 -- ---- the same locals
 
 others_same : (f g : ℕ → Bool) → ((x : ℕ) → f x ≡ g x) → f ≡ g
 others_same f g h = λ i x. h x i
 
-pub own_exposed : (f g : ℕ → Bool) (nodes : Nodes) → ((x : ℕ) → f x ≡ g x) → exposed_from f [] no_copies nodes ≡ exposed_from g [] no_copies nodes
-own_exposed f g nodes h = ap (λ t. exposed_from t [] no_copies nodes) (others_same f g h)
+pub own_exposed : (fs : List Fact) (f g : ℕ → Bool) (nodes : Nodes) → ((x : ℕ) → f x ≡ g x) → exposed_from f fs no_copies nodes ≡ exposed_from g fs no_copies nodes
+own_exposed fs f g nodes h = ap (λ t. exposed_from t fs no_copies nodes) (others_same f g h)
 
 -- ---- along the loops
 
@@ -269,9 +269,13 @@ marks_updated m n k x u =
 -- ---- facts that are kept
 
 -- those on other locals than none
+on_none : (b : Base) → is_on (is_local None) b ≡ false
+on_none Zero = refl
+on_none (Local x) = refl
+
 pub others_none : (fs : List Fact) → others (is_local None) fs ≡ fs
 others_none [] = refl
-others_none (f ∷ fs) = ap (λ z. f ∷ z) (others_none fs)
+others_none (f ∷ fs) = ap (λ b. keep_if (not b) f (others (is_local None) fs)) (on_none f.base) ∙ ap (λ z. f ∷ z) (others_none fs)
 
 -- one more that is kept, or not
 at_index : (xs : List KnownFact) (i : ℕ) (d : KnownFact) → i < length xs → drop i xs ≡ get_or xs i d ∷ drop (suc i) xs
@@ -283,12 +287,12 @@ facts_append : (xs : List KnownFact) (x : KnownFact) → map fact (xs ++ x ∷ [
 facts_append [] x = refl
 facts_append (y ∷ xs) x = ap (λ z. fact y ∷ z) (facts_append xs x)
 
-pub kept_one : (these : ℕ → Bool) (xs : List KnownFact) (i : ℕ) (d : KnownFact) (old new : List KnownFact) (b : Bool) → i < length xs → b ≡ these (get_or xs i d).local → b ≡ false → new ≡ old ++ get_or xs i d ∷ [] → (map fact old ++ others these (map fact (drop i xs))) ≡ others these (map fact xs) → (map fact new ++ others these (map fact (drop (i + 1) xs))) ≡ others these (map fact xs)
+pub kept_one : (these : ℕ → Bool) (xs : List KnownFact) (i : ℕ) (d : KnownFact) (old new : List KnownFact) (b : Bool) → i < length xs → b ≡ is_on these (base_of (get_or xs i d).local) → b ≡ false → new ≡ old ++ get_or xs i d ∷ [] → (map fact old ++ others these (map fact (drop i xs))) ≡ others these (map fact xs) → (map fact new ++ others these (map fact (drop (i + 1) xs))) ≡ others these (map fact xs)
 kept_one these xs i d old new b lt is no_mark made_ h =
     let x = get_or xs i d in
     let rest = others these (map fact (drop (suc i) xs)) in
     let one : i + 1 ≡ suc i = omega arith in
-    let unmarked : these x.local ≡ false = sym is ∙ no_mark in
+    let unmarked : is_on these (base_of x.local) ≡ false = sym is ∙ no_mark in
     ap₂ (λ (z : List KnownFact) (n : ℕ). map fact z ++ others these (map fact (drop n xs))) made_ one
     ∙ ap (λ z. z ++ rest) (facts_append old x)
     ∙ append_assoc (map fact old) (fact x ∷ []) rest
@@ -296,12 +300,12 @@ kept_one these xs i d old new b lt is no_mark made_ h =
     ∙ sym (ap (λ z. map fact old ++ others these (map fact z)) (at_index xs i d lt))
     ∙ h
 
-pub dropped_one : (these : ℕ → Bool) (xs : List KnownFact) (i : ℕ) (d : KnownFact) (old new : List KnownFact) (b : Bool) → i < length xs → b ≡ these (get_or xs i d).local → b ≡ true → new ≡ old → (map fact old ++ others these (map fact (drop i xs))) ≡ others these (map fact xs) → (map fact new ++ others these (map fact (drop (i + 1) xs))) ≡ others these (map fact xs)
+pub dropped_one : (these : ℕ → Bool) (xs : List KnownFact) (i : ℕ) (d : KnownFact) (old new : List KnownFact) (b : Bool) → i < length xs → b ≡ is_on these (base_of (get_or xs i d).local) → b ≡ true → new ≡ old → (map fact old ++ others these (map fact (drop i xs))) ≡ others these (map fact xs) → (map fact new ++ others these (map fact (drop (i + 1) xs))) ≡ others these (map fact xs)
 dropped_one these xs i d old new b lt is mark made_ h =
     let x = get_or xs i d in
     let rest = others these (map fact (drop (suc i) xs)) in
     let one : i + 1 ≡ suc i = omega arith in
-    let marked : these x.local ≡ true = sym is ∙ mark in
+    let marked : is_on these (base_of x.local) ≡ true = sym is ∙ mark in
     ap₂ (λ (z : List KnownFact) (n : ℕ). map fact z ++ others these (map fact (drop n xs))) made_ one
     ∙ sym (ap (λ c. map fact old ++ keep_if (not c) (fact x) rest) marked)
     ∙ sym (ap (λ z. map fact old ++ others these (map fact z)) (at_index xs i d lt))

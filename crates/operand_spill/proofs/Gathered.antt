@@ -7,7 +7,7 @@ use Rattle.wasm_syntax.specs.Module.{type_at}
 use Rattle.wasm_syntax.specs.Machine.{result_of}
 use Rattle.rewrite_bodies.specs.Numbering.{import_count}
 use Rattle.rewrite_bodies.specs.calls.Slots.{Place, Landing, Ctx, less, grown, under, after_plain}
-use Rattle.rewrite_bodies.specs.calls.Landings.{landing_at, with_some, landing_call, landings_call, landings_jump, landings_from}
+use Rattle.rewrite_bodies.specs.calls.Landings.{landing_at, with_some, landing_call, landings_call, landings_jump, landings_from, part_of}
 use Rattle.operand_spill.specs.calls.Walking.{Walking}
 use Rattle.operand_spill.specs.calls.Before.{dead, live, after_call, after_jump, before}
 use Rattle.operand_spill.specs.inner.Knowing.{Places, Starts, Knows, Proceeds, AreDead}
@@ -52,29 +52,29 @@ module _ (C : Ctx) where
   abbrev Rest : Nodes → List Placed → Places → Type 0
   Rest rest code behind = (es : List Place) (xs : List Landing) → gathered C code (live C es rest behind) xs ≡ landings_from C es rest xs
 
-  call_gathers : (b : Bool) (o : Option FuncType) (es : List Place) (xs : List Landing) (code : List Placed) (go : List Place → Places) (over : Places) (to : List Place → List Landing → List Landing) (behind : List Landing → List Landing) → ((es' : List Place) (xs' : List Landing) → gathered C code (go es') xs' ≡ behind (to es' xs')) → ((xs' : List Landing) → gathered C code over xs' ≡ behind xs') → gathered C code (after_call o es go over) (noted_call b o es xs) ≡ behind (landings_call b o es xs to)
-  call_gathers b None es xs code go over to behind f g = g xs
-  call_gathers b (Some type) es xs code go over to behind f g = f (grown (result_of type) (less (length type.params) es)) (landing_call b (less (length type.params) es) xs)
+  call_gathers : (p : ℕ) (b : Bool) (o : Option FuncType) (es : List Place) (xs : List Landing) (code : List Placed) (go : List Place → Places) (over : Places) (to : List Place → List Landing → List Landing) (behind : List Landing → List Landing) → ((es' : List Place) (xs' : List Landing) → gathered C code (go es') xs' ≡ behind (to es' xs')) → ((xs' : List Landing) → gathered C code over xs' ≡ behind xs') → gathered C code (after_call o es go over) (noted_call p b o es xs) ≡ behind (landings_call p b o es xs to)
+  call_gathers p b None es xs code go over to behind f g = g xs
+  call_gathers p b (Some type) es xs code go over to behind f g = f (grown (result_of type) (less (length type.params) es)) (landing_call p b (less (length type.params) es) xs)
 
-  through_gathers : (o : Option FuncType) (es : List Place) (xs : List Landing) (code : List Placed) (go : List Place → Places) (over : Places) (to : List Place → List Landing → List Landing) (behind : List Landing → List Landing) → ((es' : List Place) (xs' : List Landing) → gathered C code (go es') xs' ≡ behind (to es' xs')) → ((xs' : List Landing) → gathered C code over xs' ≡ behind xs') → gathered C code (after_call o es go over) xs ≡ behind (landings_call true o es xs to)
-  through_gathers None es xs code go over to behind f g = g xs
-  through_gathers (Some type) es xs code go over to behind f g = f (grown (result_of type) (less (length type.params) es)) xs
+  through_gathers : (p : ℕ) (o : Option FuncType) (es : List Place) (xs : List Landing) (code : List Placed) (go : List Place → Places) (over : Places) (to : List Place → List Landing → List Landing) (behind : List Landing → List Landing) → ((es' : List Place) (xs' : List Landing) → gathered C code (go es') xs' ≡ behind (to es' xs')) → ((xs' : List Landing) → gathered C code over xs' ≡ behind xs') → gathered C code (after_call o es go over) xs ≡ behind (landings_call p true o es xs to)
+  through_gathers p None es xs code go over to behind f g = g xs
+  through_gathers p (Some type) es xs code go over to behind f g = f (grown (result_of type) (less (length type.params) es)) xs
 
-  jump_gathers : (j : Jump) (es : List Place) (xs : List Landing) (code : List Placed) (go : List Place → Places) (over : Places) (to : List Place → List Landing → List Landing) (behind : List Landing → List Landing) → ((es' : List Place) (xs' : List Landing) → gathered C code (go es') xs' ≡ behind (to es' xs')) → ((xs' : List Landing) → gathered C code over xs' ≡ behind xs') → gathered C code (after_jump C j es go over) (noted_jump C j es xs) ≡ behind (landings_jump C j es xs to)
-  jump_gathers Unreachable es xs code go over to behind f g = g xs
-  jump_gathers (Br l) es xs code go over to behind f g = g xs
-  jump_gathers (BrIf l) es xs code go over to behind f g = f (less 1 es) xs
-  jump_gathers (BrTable ts d) es xs code go over to behind f g = g xs
-  jump_gathers Return es xs code go over to behind f g = g xs
-  jump_gathers (Call h) es xs code go over to behind f g = call_gathers (nat_lt h (import_count C.source)) (type_at C.source h) es xs code go over to behind f g
-  jump_gathers (CallIndirect t) es xs code go over to behind f g = through_gathers (slice_get C.source.types t) (less 1 es) xs code go over to behind f g
+  jump_gathers : (p : ℕ) (j : Jump) (es : List Place) (xs : List Landing) (code : List Placed) (go : List Place → Places) (over : Places) (to : List Place → List Landing → List Landing) (behind : List Landing → List Landing) → ((es' : List Place) (xs' : List Landing) → gathered C code (go es') xs' ≡ behind (to es' xs')) → ((xs' : List Landing) → gathered C code over xs' ≡ behind xs') → gathered C code (after_jump C j es go over) (noted_jump C p j es xs) ≡ behind (landings_jump C p j es xs to)
+  jump_gathers p Unreachable es xs code go over to behind f g = g xs
+  jump_gathers p (Br l) es xs code go over to behind f g = g xs
+  jump_gathers p (BrIf l) es xs code go over to behind f g = f (less 1 es) xs
+  jump_gathers p (BrTable ts d) es xs code go over to behind f g = g xs
+  jump_gathers p Return es xs code go over to behind f g = g xs
+  jump_gathers p (Call h) es xs code go over to behind f g = call_gathers p (nat_lt h (import_count C.source)) (type_at C.source h) es xs code go over to behind f g
+  jump_gathers p (CallIndirect t) es xs code go over to behind f g = through_gathers p (slice_get C.source.types t) (less 1 es) xs code go over to behind f g
 
   -- live code
   live_gathers : (nodes : Nodes) (es : List Place) (e : Item) (at : ℕ) (more : List Placed) (behind : Places) (xs : List Landing) → IsTree nodes → Quiet e → gathered C (write nodes (placed at e ∷ more)) (live C es nodes behind) xs ≡ gathered C more behind (landings_from C es nodes xs)
   live_gathers stop es e at more behind xs it q = ap (gathered C more behind) (q (Some es) at xs)
   live_gathers (basic o i rest) es e at more behind xs it q = live_gathers rest (after_plain C es i) e at more behind (with_some (landing_at C o i es) xs) it q
   live_gathers (jump o j rest) es e at more behind xs it q =
-      jump_gathers j es xs (write rest (placed at e ∷ more)) (λ left. live C left rest behind) (dead rest behind) (λ es' xs'. landings_from C es' rest xs') (gathered C more behind)
+      jump_gathers (part_of C.locals o) j es xs (write rest (placed at e ∷ more)) (λ left. live C left rest behind) (dead rest behind) (λ es' xs'. landings_from C es' rest xs') (gathered C more behind)
       (λ es' xs'. live_gathers rest es' e at more behind xs' it q) (λ xs'. dead_gathers rest e at more behind xs' it q)
   live_gathers (block o t inner end rest) es e at more behind xs it q =
       live_gathers inner (under es) End end (write rest (placed at e ∷ more)) (live C (grown t (under es)) rest behind) xs it.0 quiet_end

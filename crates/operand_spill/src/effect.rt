@@ -3,7 +3,8 @@
 ghost use Rattle.std.specs.Prelude.{◌≡◌, map, option_map, slice_get};
 ghost use Rattle.wasm_syntax.specs.Effect.{takes};
 ghost use Rattle.wasm_syntax.specs.Numbers.{convert_to};
-ghost use Rattle.rewrite_bodies.specs.calls.Slots.{Ctx, Spilled as SpilledOf, Copied as CopiedOf, second_type, result_type};
+ghost use Rattle.rewrite_bodies.specs.calls.Slots.{Ctx, Spilled as SpilledOf, Copied as CopiedOf};
+ghost use Rattle.rewrite_bodies.specs.calls.Slots.{second_type, result_type};
 ghost use Rattle.rewrite_bodies.specs.calls.Slots.{result_place};
 ghost use Rattle.rewrite_code.specs.calls.Places.{place};
 

@@ -3,17 +3,19 @@
 ghost use Rattle.std.specs.Prelude.{◌≡◌, ◌||◌, ◌==◌, ◌+◌, ◌^◌, ◌<◌, ◌≤◌, ℕ, List, [], IfOk, OnOk};
 ghost use Rattle.wasm_syntax.specs.Tree.{Tree, Writes, Plain, item_of};
 ghost use Rattle.rewrite_bodies.specs.calls.Slots.{local_written};
-ghost use Rattle.rewrite_bodies.specs.calls.Facts.{no_copies, copies_behind, facts_behind, frail, exposed_in};
-ghost use Rattle.operand_spill.specs.inner.Exposing.{held, deeper, marked_by, here, latest, older, entered, passed, is_exposed, one_more};
+ghost use Rattle.rewrite_bodies.specs.calls.Facts.{no_copies, copies_behind};
+ghost use Rattle.rewrite_bodies.specs.calls.Facts.{first_facts, facts_behind, frail, exposed_in};
+ghost use Rattle.operand_spill.specs.inner.Exposing.{held, deeper, marked_by, here, latest};
+ghost use Rattle.operand_spill.specs.inner.Exposing.{older, entered, passed, is_exposed, one_more};
 
+use crate::copies::KnownCopies;
 use crate::facts::{Facts, shown};
 use causes::NoMemory;
-use guard_insert::can_trap;
-use rewrite_code::Offsets;
+use rewrite_code::{Offsets, can_trap};
 use std::alloc::Global;
 use std::collections::BTreeSet;
 use std::marker::Model;
-use wasm_syntax::{Basic, Instr, Op, read_op};
+use wasm_syntax::{Basic, Instr, ModuleParts, Op, read_op};
 
 // ---- locals that blocks write
 
@@ -92,13 +94,12 @@ fn written_in_blocks(alloc: Global, ops: &[Op]) -> Result<BTreeSet<u32>, NoMemor
 
 // ---- what is known along a body
 
-/// What is known before an instruction: facts, the locals of which the two topmost operands are
-/// copies, and the facts behind each open block.
+/// What is known before an instruction: facts, what the three topmost operands are, and the facts
+/// behind each open block.
 #[derive(Drop)]
 pub struct Knowing {
     facts: Facts,
-    first: Option<u32>,
-    second: Option<u32>,
+    operands: KnownCopies,
     saved: Vec<Facts>,
 }
 
@@ -108,56 +109,43 @@ impl Model for Knowing {
 
     ghost Value = { Here };
 
-    ghost view = { λ s. here s.facts (copies s.first s.second) (reverse s.saved.items) };
+    ghost view = { λ s. here s.facts (copies s.operands) (reverse s.saved.items) };
 }
 
 impl Knowing {
-    /// Before the first instruction of a body, which takes no memory.
-    fn new(alloc: Global) -> Self
-        ensures { result ≡ here [] no_copies [] }
+    /// Before the first instruction of a body.
+    fn new(alloc: Global, source: &ModuleParts) -> Result<Self, NoMemory>
+        ensures { IfOk result (λ knowing. knowing
+            ≡ here (first_facts source.now.memories) no_copies []) }
     {
-        Knowing {
-            facts: Facts::new(alloc),
-            first: None,
-            second: None,
+        let facts = Facts::first(alloc, source)?;
+        Ok(Knowing {
+            facts,
+            operands: KnownCopies::none(),
             saved: Vec::new(alloc),
-        }
+        })
     }
 
     // Whether an instruction needs a guard.
     fn exposes(&self, instruction: Basic) -> bool
         ensures { result ≡ is_exposed self.now (Plain instruction) }
     {
-        can_trap(&instruction)
-            && !self
-                .facts
-                .answer(shown(instruction, self.first, self.second))
+        can_trap(&instruction) && !self.facts.answer(shown(instruction, self.operands))
     }
 
     // No topmost operand is known to be a copy.
     fn forget(&mut self)
         ensures { self.new ≡ here self.old.facts no_copies self.old.saved }
     {
-        self.first = None;
-        self.second = None;
+        self.operands = KnownCopies::none();
     }
 
-    // What the topmost operands are copies of behind an instruction.
+    // What the topmost operands are behind an instruction.
     fn copy_behind(&mut self, instruction: Basic)
         ensures { self.new ≡ here self.old.facts (copies_behind instruction self.old.copies)
             self.old.saved }
     {
-        match instruction {
-            Basic::LocalGet(local) => {
-                self.second = self.first;
-                self.first = Some(local);
-            }
-            Basic::Const(_) => {
-                self.second = self.first;
-                self.first = None;
-            }
-            _ => self.forget(),
-        }
+        self.operands = self.operands.behind(instruction);
     }
 
     // The facts behind an instruction.
@@ -166,8 +154,7 @@ impl Knowing {
             (facts_behind instruction self.old.copies self.old.facts) self.old.copies
             self.old.saved) }
     {
-        self.facts
-            .note(shown(instruction, self.first, self.second))?;
+        self.facts.note(shown(instruction, self.operands))?;
         self.facts.free(local_written(instruction))
     }
 
@@ -261,14 +248,14 @@ fn note(found: &mut Offsets, knowing: &Knowing, op: Op) -> Result<(), NoMemory>
     Ok(())
 }
 
-/// The offsets of the instructions of a body that need a guard.
-pub fn exposed(alloc: Global, ops: &[Op]) -> Result<Offsets, NoMemory>
+/// The offsets of the instructions of a body in this module that need a guard.
+pub fn exposed(alloc: Global, source: &ModuleParts, ops: &[Op]) -> Result<Offsets, NoMemory>
     ensures { (targets : List ℕ) (tree : Tree) → Writes targets ops.now tree
-        → IfOk result (λ found. found ≡ exposed_in tree.nodes) }
+        → IfOk result (λ found. found ≡ exposed_in source.now.memories tree.nodes) }
 {
     let marks = written_in_blocks(alloc, ops)?;
     let mut found = Offsets::new(alloc);
-    let mut knowing = Knowing::new(alloc);
+    let mut knowing = Knowing::new(alloc, source)?;
     let mut pc = 0;
     while pc < ops.len() {
         let op = read_op(ops, pc);

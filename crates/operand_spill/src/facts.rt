@@ -1,36 +1,54 @@
 //! What is known of the memory before an instruction: how many bytes from the value of a local on lie
 //! inside.
 
-ghost use Rattle.std.specs.Prelude.{◌≡◌, ◌==◌, ◌&&◌, ◌+◌, nat_le, [], map, Some, option_map, IfOk, OnOk};
-ghost use Rattle.rewrite_bodies.specs.calls.Facts.{is_local, others, answered, noted, shown, is_answered, reach};
-ghost use Rattle.operand_spill.specs.inner.Exposing.{fact, made, copies, held};
+ghost use Rattle.std.specs.Prelude.{◌≡◌, ◌==◌, ◌&&◌, ◌+◌, ◌*◌, nat_le, [], ◌∷◌, map, Some, None, option_map, IfOk, OnOk};
+ghost use Rattle.rewrite_bodies.specs.calls.Facts.{same_base, is_on, is_local, others, answered};
+ghost use Rattle.rewrite_bodies.specs.calls.Facts.{first_facts, noted, shown, is_answered, reach};
+ghost use Rattle.operand_spill.specs.inner.Exposing.{base_of, fact, copy, made, copies, held};
 
+use crate::copies::{KnownCopies, KnownCopy, is_written};
 use causes::NoMemory;
 use std::alloc::Global;
 use std::collections::BTreeSet;
 use std::marker::Model;
-use wasm_syntax::Basic;
+use wasm_syntax::{Basic, ModuleParts};
 
-/// The most facts that are kept.
-const MOST: usize = 32;
+/// The most facts that are kept, with the one on the least pages.
+const MOST: usize = 33;
 
-/// The bytes from the value of a local to this end, which is counted from there, lie inside the
-/// memory.
+/// The bytes from the value of a local, or from address 0, to this end, which is counted from there,
+/// lie inside the memory.
 #[derive(Clone, Copy)]
 pub struct KnownFact {
-    pub local: u32,
+    pub local: Option<u32>,
     pub end: u64,
 }
 
-/// Whether a fact says that so many bytes lie inside.
-fn answers(found: KnownFact, local: u32, end: u64) -> bool
-    ensures { result ≡ ((found.local == local) && nat_le end found.end) }
+fn same_base(a: Option<u32>, b: Option<u32>) -> bool
+    ensures { result ≡ same_base (base_of a) (base_of b) }
 {
-    found.local == local && end <= found.end
+    match a {
+        Some(x) => match b {
+            Some(y) => x == y,
+            None => false,
+        },
+        None => match b {
+            Some(_) => false,
+            None => true,
+        },
+    }
+}
+
+/// Whether a fact says that so many bytes lie inside.
+fn answers(found: KnownFact, local: Option<u32>, end: u64) -> bool
+    ensures { result
+        ≡ (same_base (base_of found.local) (base_of local) && nat_le end found.end) }
+{
+    same_base(found.local, local) && end <= found.end
 }
 
 /// Whether one of these does.
-fn is_known(items: &[KnownFact], local: u32, end: u64) -> bool
+fn is_known(items: &[KnownFact], local: Option<u32>, end: u64) -> bool
     ensures { result ≡ answered (made local end) (map fact items.now) }
 {
     for found in items {
@@ -59,18 +77,21 @@ fn unwritten(alloc: Global, items: &[KnownFact], local: u32) -> Result<Vec<Known
 {
     let mut left = Vec::new(alloc);
     for found in items {
-        if local != found.local {
+        if !is_written(found.local, local) {
             left.push(*found)?;
         }
     }
     Ok(left)
 }
 
-/// Whether a local is one of these.
-fn is_marked(marks: &BTreeSet<u32>, local: u32) -> bool
-    ensures { result ≡ held marks.now local }
+/// Whether a base is one of these locals.
+fn is_marked(marks: &BTreeSet<u32>, base: Option<u32>) -> bool
+    ensures { result ≡ is_on (held marks.now) (base_of base) }
 {
-    marks.contains(&local)
+    match base {
+        Some(local) => marks.contains(&local),
+        None => false,
+    }
 }
 
 /// Those on none of these locals.
@@ -91,6 +112,16 @@ fn unmarked(
     Ok(left)
 }
 
+/// So many pages lie inside.
+fn least(pages: u32) -> KnownFact
+    ensures { fact result ≡ made None (65536 * pages) }
+{
+    KnownFact {
+        local: None,
+        end: 65_536 * u64::from(pages),
+    }
+}
+
 /// Facts, which contracts see as a list.
 #[derive(Drop)]
 pub struct Facts {
@@ -108,26 +139,26 @@ impl Model for Facts {
     ghost view = { λ s. map fact s.items.items };
 }
 
-/// What an access shows of a local, with this offset and so many bytes.
-fn reach(local: Option<u32>, offset: u32, bytes: u32) -> Option<KnownFact>
-    ensures { option_map fact result ≡ reach local (offset + bytes) }
+/// What an access to this address shows, with this offset and so many bytes.
+fn reach(address: Option<KnownCopy>, offset: u32, bytes: u32) -> Option<KnownFact>
+    ensures { option_map fact result ≡ reach (option_map copy address) (offset + bytes) }
 {
-    match local {
-        Some(local) => Some(KnownFact {
-            local,
-            end: u64::from(offset) + u64::from(bytes),
+    match address {
+        Some(known) => Some(KnownFact {
+            local: known.local,
+            end: u64::from(known.plus) + (u64::from(offset) + u64::from(bytes)),
         }),
         None => None,
     }
 }
 
-/// What an instruction shows, where the two topmost operands are copies of these locals.
-pub fn shown(instruction: Basic, first: Option<u32>, second: Option<u32>) -> Option<KnownFact>
-    ensures { option_map fact result ≡ shown instruction (copies first second) }
+/// What an instruction shows on these operands.
+pub fn shown(instruction: Basic, operands: KnownCopies) -> Option<KnownFact>
+    ensures { option_map fact result ≡ shown instruction (copies operands) }
 {
     match instruction {
-        Basic::Load(load, _, offset) => reach(first, offset, load.bytes()),
-        Basic::Store(store, _, offset) => reach(second, offset, store.bytes()),
+        Basic::Load(load, _, offset) => reach(operands.first, offset, load.bytes()),
+        Basic::Store(store, _, offset) => reach(operands.second, offset, store.bytes()),
         _ => None,
     }
 }
@@ -140,6 +171,25 @@ impl Facts {
         Facts {
             alloc,
             items: Vec::new(alloc),
+        }
+    }
+
+    /// A single one.
+    fn one(alloc: Global, found: KnownFact) -> Result<Self, NoMemory>
+        ensures { IfOk result (λ facts. facts ≡ fact found ∷ []) }
+    {
+        let mut items = Vec::new(alloc);
+        items.push(found)?;
+        Ok(Facts { alloc, items })
+    }
+
+    /// Those where a function begins: a memory has its least pages.
+    pub fn first(alloc: Global, source: &ModuleParts) -> Result<Self, NoMemory>
+        ensures { IfOk result (λ facts. facts ≡ first_facts source.now.memories) }
+    {
+        match source.memories.as_slice() {
+            [limits, ..] => Facts::one(alloc, least(limits.min)),
+            [] => Ok(Facts::new(alloc)),
         }
     }
 

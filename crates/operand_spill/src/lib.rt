@@ -2,6 +2,7 @@
 //! its body that knows which operand is where.
 #![tactic(auto)]
 
+mod copies;
 mod effect;
 mod exposing;
 mod facts;

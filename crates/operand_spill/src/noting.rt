@@ -12,25 +12,25 @@ ghost use Rattle.operand_spill.specs.inner.Noting.{noted, noted_call, noted_jump
 use crate::Walk;
 use crate::places::advance;
 use causes::NoMemory;
-use guard_insert::can_trap;
-use rewrite_code::{Landings, Offsets};
+use rewrite_code::{Landings, Offsets, can_trap, part_of};
 use std::alloc::Global;
 use wasm_syntax::{Basic, FuncType, Instr, Jump, ModuleParts, Op, ValType, read_op};
 
-/// The landing behind a call of a function of this type, which may be an import.
+/// The landing behind a call in this part of a function of this type, which may be an import.
 fn note_type(
     found: &mut Landings,
     walk: &Walk,
+    part: u32,
     imported: bool,
     ftype: &FuncType,
 ) -> Result<(), NoMemory>
     ensures { OnOk result (found.new
-        ≡ noted_call imported (Some ftype.now) walk.now.places found.old) }
+        ≡ noted_call part imported (Some ftype.now) walk.now.places found.old) }
 {
     if imported {
         Ok(())
     } else {
-        found.note_call(walk.places(), ftype.params.len())
+        found.note_call(part, walk.places(), ftype.params.len())
     }
 }
 
@@ -41,35 +41,37 @@ fn is_imported(source: &ModuleParts, function: u32) -> bool
     (function as usize) < source.imports.len()
 }
 
-/// The landing behind a call.
+/// The landing behind a call in this part.
 fn note_call(
     found: &mut Landings,
     walk: &Walk,
     source: &ModuleParts,
+    part: u32,
     function: u32,
 ) -> Result<(), NoMemory>
-    ensures { OnOk result (found.new ≡ noted_call (nat_lt function (import_count source.now))
+    ensures { OnOk result (found.new ≡ noted_call part (nat_lt function (import_count source.now))
         (type_at source.now function) walk.now.places found.old) }
 {
     let imported = is_imported(source, function);
     match source.type_of(function as usize) {
-        Some(ftype) => note_type(found, walk, imported, ftype),
+        Some(ftype) => note_type(found, walk, part, imported, ftype),
         None => Ok(()),
     }
 }
 
-/// The landing behind a jump, if it has one.
+/// The landing behind a jump in this part, if it has one.
 fn note_jump(
     found: &mut Landings,
     walk: &Walk,
     source: &ModuleParts,
+    part: u32,
     code: Jump,
 ) -> Result<(), NoMemory>
     ensures { (C : Ctx) (targets : List ℕ) → C.source ≡ source.now → OnOk result
-        (found.new ≡ noted_jump C (jump_of targets code) walk.now.places found.old) }
+        (found.new ≡ noted_jump C part (jump_of targets code) walk.now.places found.old) }
 {
     match code {
-        Jump::Call(function) => note_call(found, walk, source, function),
+        Jump::Call(function) => note_call(found, walk, source, part, function),
         Jump::Unreachable => Ok(()),
         Jump::Br(_) => Ok(()),
         Jump::BrIf(_) => Ok(()),
@@ -83,15 +85,17 @@ fn note_jump(
 fn note_guard(
     found: &mut Landings,
     walk: &Walk,
+    locals: &[ValType],
     exposed: &Offsets,
     offset: u32,
     instruction: Basic,
 ) -> Result<(), NoMemory>
-    ensures { (C : Ctx) → C.exposed ≡ exposed.now → OnOk result (found.new
+    ensures { (C : Ctx) → C.locals ≡ locals.now → C.exposed ≡ exposed.now
+        → OnOk result (found.new
         ≡ with_some (landing_at C offset instruction walk.now.places) found.old) }
 {
     if can_trap(&instruction) && exposed.contains(offset) {
-        found.note_guard(&instruction, walk.places())
+        found.note_guard(part_of(locals, offset), &instruction, walk.places())
     } else {
         Ok(())
     }
@@ -101,17 +105,18 @@ fn note_guard(
 fn note(
     found: &mut Landings,
     walk: &Walk,
+    locals: &[ValType],
     source: &ModuleParts,
     exposed: &Offsets,
     op: Op,
 ) -> Result<(), NoMemory>
-    ensures { (C : Ctx) (targets : List ℕ) → C.source ≡ source.now → C.exposed ≡ exposed.now
-        → OnOk result (found.new
+    ensures { (C : Ctx) (targets : List ℕ) → C.locals ≡ locals.now → C.source ≡ source.now
+        → C.exposed ≡ exposed.now → OnOk result (found.new
         ≡ noted C (Some walk.now.places) op.at (item_of targets op.code) found.old) }
 {
     match op.code {
-        Instr::Basic(instruction) => note_guard(found, walk, exposed, op.at, instruction),
-        Instr::Jump(code) => note_jump(found, walk, source, code),
+        Instr::Basic(instruction) => note_guard(found, walk, locals, exposed, op.at, instruction),
+        Instr::Jump(code) => note_jump(found, walk, source, part_of(locals, op.at), code),
         Instr::Block(_) => Ok(()),
         Instr::Loop(_) => Ok(()),
         Instr::If(_) => Ok(()),
@@ -137,7 +142,7 @@ pub fn landings(
     let mut pc = 0;
     while pc < ops.len() {
         let op = read_op(ops, pc);
-        note(&mut found, &walk, source, exposed, op)?;
+        note(&mut found, &walk, locals, source, exposed, op)?;
         pc = advance(&mut walk, locals, source, ops, pc)?;
     }
     Ok(found)

@@ -44,10 +44,11 @@ use Rattle.wasm_syntax.specs.declared.host.Write.{Write}
 use Rattle.wasm_laws.proofs.Progress.{types_append, zero_types, same_of}
 use Rattle.wasm_syntax.proofs.Types.{same_type_is, same_types_are, same_functype_refl}
 use Rattle.rewrite_bodies.proofs.Laid.{few_landings, room_landed, into_body}
-use Rattle.rewrite_bodies.specs.calls.Landings.{number_of, landing_behind, landings_from, with_landings, landed}
+use Rattle.rewrite_bodies.specs.calls.Landings.{number_of, landing_behind, landings_from, with_landings, landed, part_of}
 use Rattle.rewrite_bodies.proofs.Landed.{exit_branch, marked, types_marked, fits_marked}
 use Rattle.rewrite_bodies.specs.inner.Promises.{Comes}
 use Rattle.rewrite_bodies.specs.calls.Facts.{exposed_in}
+use Rattle.rewrite_bodies.proofs.Longer.{least_longer, writes_longer}
 use Rattle.rewrite_bodies.specs.calls.Known.{nodes_of}
 
 -- the locals of a function that is called on these arguments
@@ -117,7 +118,7 @@ writes_keep (Some m) (w ∷ ws) k' e h = by_put (memories.put m w.at w.bytes) re
 module _ (M : Engine) (gl : List ValType) (b : Value) (call : HostCall) (w : World) (wf : WorldFits M gl w) where
   written_rel : (reply : Reply) (left : List Reply) (o : Option (Option Memory)) → fits_type call.result reply.value ≡ true → after_writes w.memory reply.writes ≡ o → AnswerRel M gl call.result b (if_written call reply left w o) (if_written call reply left (flagged M w b) o)
   written_rel reply left None ft e = refl
-  written_rel reply left (Some k) ft e = (refl, record { globals = wf.globals; memory = writes_keep w.memory reply.writes k e wf.memory; table = wf.table }, fits_result call.result reply.value ft)
+  written_rel reply left (Some k) ft e = (refl, record { globals = wf.globals; memory = writes_keep w.memory reply.writes k e wf.memory; least = least_longer M.program.module_.memories w.memory k (writes_longer w.memory reply.writes k e) wf.least; table = wf.table }, fits_result call.result reply.value ft)
 
   fits_rel : (reply : Reply) (left : List Reply) (q : Bool) → fits_type call.result reply.value ≡ q → AnswerRel M gl call.result b (if_fits call reply left w q) (if_fits call reply left (flagged M w b) q)
   fits_rel reply left false ft = refl
@@ -249,18 +250,18 @@ module _ (M M' : Engine) (E : ℕ) (gl : List ValType) (W : Wrap) (S : Stands M 
 
       -- and behind the test of the flag, where there is one
       abbrev marks : Bool → Option UnderWay → List Value → List Value
-      marks false None ex2 = marked (number_of (landing_behind es1) C.landings) C o ex2
+      marks false None ex2 = marked (number_of (landing_behind (part_of C.locals o) es1) C.landings) C o ex2
       marks true None ex2 = ex2
       marks q (Some u) ex2 = ex2
 
       types_marks : (q : Bool) (u : Option UnderWay) (ex2 : List Value) → types ex2 ≡ added C.slots → types (marks q u ex2) ≡ types ex2
-      types_marks false None ex2 room = types_marked (number_of (landing_behind es1) C.landings) C o ex2 room
+      types_marks false None ex2 room = types_marked (number_of (landing_behind (part_of C.locals o) es1) C.landings) C o ex2 room
       types_marks true None ex2 room = refl
       types_marks false (Some u) ex2 room = refl
       types_marks true (Some u) ex2 room = refl
 
       fits_marks : (q : Bool) (u : Option UnderWay) (ex2 : List Value) (Ls' : List Label) (ss' : List (List Place)) → length (joined ss') ≤ C.slots → FitsLabels C l ex2 None Ls' ss' → FitsLabels C l (marks q u ex2) None Ls' ss'
-      fits_marks false None ex2 Ls' ss' low h = fits_marked (number_of (landing_behind es1) C.landings) C o l ex2 None Ls' ss' low h
+      fits_marks false None ex2 Ls' ss' low h = fits_marked (number_of (landing_behind (part_of C.locals o) es1) C.landings) C o l ex2 None Ls' ss' low h
       fits_marks true None ex2 Ls' ss' low h = h
       fits_marks false (Some u) ex2 Ls' ss' low h = h
       fits_marks true (Some u) ex2 Ls' ss' low h = h
@@ -349,7 +350,7 @@ module _ (M M' : Engine) (E : ℕ) (gl : List ValType) (W : Wrap) (S : Stands M 
     begun ex1 below e' rest b tree type vs dq others g' stk nd t n true at df same nk hb ty le d pre =
         let k = S.functions g' b tree type at in
         let C0 = ctx_of M.program g' b type k.slots in
-        let os = exposed_in tree.nodes in
+        let os = exposed_in M.program.module_.memories tree.nodes in
         let C1 = landed C0 os [] in
         let C' = with_landings C0 tree.nodes in
         let few_ = few_landings C1 [] tree.nodes [] (omega arith) in
@@ -364,7 +365,7 @@ module _ (M M' : Engine) (E : ℕ) (gl : List ValType) (W : Wrap) (S : Stands M 
         let s1 : To M' 1 n t mid = rw (depth, locals) at (pre k) in
         let s3 : To M' 0 25 mid (config (t_frame now (entered g' b tree type args) (wit C' ex' ([] ∷ [])) ∷ stands_under Z ex1 (lies_under ex1 below e' rest (defined b tree type) vs dq others others) code) g0 co) = into_body M' (mapped M.program.module_ g') (result_of type) ((args ++ zeros (declared_locals b.groups)) ++ ex') (stands_under Z ex1 (lies_under ex1 below e' rest (defined b tree type) vs dq others others) code) g0 co C' tree.nodes few_ in
         let callee : FitsFrame M E gl None (entered g' b tree type args) (wit C' ex' ([] ∷ [])) =
-        record { size = types-locals args type.params (declared_locals b.groups) ty; room = zero_types (added k.slots); idx = refl; result = refl; funcs = refl; base = refl; helpers = refl; flag = ap global_types (sym f.funcs) ∙ f.flag; small = k.small; exposed = ap (λ q. exposed_in (nodes_of q)) (sym at); narrow = k.narrow; labels = (tt, tt, room_landed C0 os (landings_from C1 [] tree.nodes []) [] tree.nodes k.room, refl, tt); no_kind = tt } in (
+        record { size = types-locals args type.params (declared_locals b.groups) ty; room = zero_types (added k.slots); idx = refl; result = refl; funcs = refl; base = refl; helpers = refl; flag = ap global_types (sym f.funcs) ∙ f.flag; small = k.small; exposed = ap (λ q. exposed_in M.program.module_.memories (nodes_of q)) (sym at); narrow = k.narrow; labels = (tt, tt, room_landed C0 os (landings_from C1 [] tree.nodes []) [] tree.nodes k.room, refl, tt); no_kind = tt } in (
           wit C' ex' ([] ∷ []) ∷ wit_under C ex1 (e' ∷ ss) others ∷ ws,
           (wf, (callee, (refit_under l (label below rest en kd ∷ Ls) ex1 (e' ∷ ss) others (result_of type) o f refl same hb nk, fs))),
           subst (λ z. To M' 1 E t (config (t_frame now (entered g' b tree type args) (wit C' ex' ([] ∷ [])) ∷ z) g0 co)) (frames_under ex1 below e' rest b tree type vs dq others df) (weaken M' (seq M' s1 s3) (omega arith) (omega (arith, le, f.small))),

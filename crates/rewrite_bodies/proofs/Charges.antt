@@ -12,7 +12,7 @@ use Rattle.wasm_syntax.specs.Machine.{result_of, same_result}
 use Rattle.wasm_syntax.proofs.Types.{same_type_refl}
 use Rattle.rewrite_bodies.specs.Numbering.{import_count}
 use Rattle.rewrite_bodies.specs.calls.Slots.{Place, Spilled, Known, Copied, Landing, Ctx, less, grown, under, after_plain, behind_call, behind_jump}
-use Rattle.rewrite_bodies.specs.calls.Landings.{same_value, same_place, same_places, same_landing, number_of, number_in, carrying, landing_behind, most_landings, at_end, unless_there, with_landing, with_some, landing_call, landings_call, landings_jump, landings_from, landing_at}
+use Rattle.rewrite_bodies.specs.calls.Landings.{same_value, same_place, same_places, same_landing, number_of, number_in, carrying, landing_behind, most_landings, at_end, unless_there, with_landing, with_some, landing_call, landings_call, landings_jump, landings_from, landing_at, part_of}
 
 abbrev pub cost : Landing → ℕ
 cost x = 35 + 16 * length x.places
@@ -33,37 +33,37 @@ charge_of C o = charge (number_in C.landings o) o
 abbrev pub charge_at : Ctx → ℕ → Basic → List Place → ℕ
 charge_at C o i es = charge_of C (landing_at C o i es)
 
-abbrev pub charge_behind : Ctx → List Place → ℕ
-charge_behind C left = charge (number_of (landing_behind left) C.landings) (Some (landing_behind left))
+abbrev pub charge_behind : Ctx → ℕ → List Place → ℕ
+charge_behind C p left = charge (number_of (landing_behind p left) C.landings) (Some (landing_behind p left))
 
-abbrev pub charge_call : Bool → Ctx → Option FuncType → List Place → ℕ
-charge_call direct C None es = 0
-charge_call true C (Some type) es = 0
-charge_call false C (Some type) es = charge_behind C (less (length type.params) es)
+abbrev pub charge_call : ℕ → Bool → Ctx → Option FuncType → List Place → ℕ
+charge_call p direct C None es = 0
+charge_call p true C (Some type) es = 0
+charge_call p false C (Some type) es = charge_behind C p (less (length type.params) es)
 
-abbrev pub charge_jump : Ctx → Jump → List Place → ℕ
-charge_jump C Unreachable es = 0
-charge_jump C (Br l) es = 0
-charge_jump C (BrIf l) es = 0
-charge_jump C (BrTable ts d) es = 0
-charge_jump C Return es = 0
-charge_jump C (Call f) es = charge_call (nat_lt f (import_count C.source)) C (type_at C.source f) es
-charge_jump C (CallIndirect t) es = 0
+abbrev pub charge_jump : Ctx → ℕ → Jump → List Place → ℕ
+charge_jump C p Unreachable es = 0
+charge_jump C p (Br l) es = 0
+charge_jump C p (BrIf l) es = 0
+charge_jump C p (BrTable ts d) es = 0
+charge_jump C p Return es = 0
+charge_jump C p (Call f) es = charge_call p (nat_lt f (import_count C.source)) C (type_at C.source f) es
+charge_jump C p (CallIndirect t) es = 0
 
 -- to the live instructions of nodes
 abbrev pub charged : Ctx → List Place → Nodes → ℕ
 charged C es stop = 0
 charged C es (basic o i rest) = charge_at C o i es + charged C (after_plain C es i) rest
-charged C es (jump o j rest) = charge_jump C j es + behind_jump C j es (λ es'. charged C es' rest)
+charged C es (jump o j rest) = charge_jump C (part_of C.locals o) j es + behind_jump C j es (λ es'. charged C es' rest)
 charged C es (block o t inner end rest) = charged C (under es) inner + charged C (grown t (under es)) rest
 charged C es (loop o t inner end rest) = charged C (under es) inner + charged C (grown t (under es)) rest
 charged C es (choose o t a ea b end rest) = let left = under (less 1 es) in charged C left a + charged C left b + charged C (grown t left) rest
 
-pub charge_low : (q : Option ℕ) (k : Option ℕ) (es : List Place) → charge q (carrying k es) ≤ 35 + 16 * length es
-charge_low None k es = omega arith
-charge_low (Some n) None es = omega arith
-charge_low (Some n) (Some k) [] = omega arith
-charge_low (Some n) (Some k) (e ∷ es) = omega arith
+pub charge_low : (p : ℕ) (q : Option ℕ) (k : Option ℕ) (es : List Place) → charge q (carrying p k es) ≤ 35 + 16 * length es
+charge_low p None k es = omega arith
+charge_low p (Some n) None es = omega arith
+charge_low p (Some n) (Some k) [] = omega arith
+charge_low p (Some n) (Some k) (e ∷ es) = omega arith
 
 -- ---- landings that are found
 
@@ -91,7 +91,7 @@ same_result_refl None = refl
 same_result_refl (Some t) = same_type_refl t
 
 same_landing_refl : (x : Landing) → same_landing x x ≡ true
-same_landing_refl x = rw (same_result_refl x.carried, eq-eqb x.kind x.kind refl, same_places_refl x.places) refl
+same_landing_refl x = rw (same_result_refl x.carried, eq-eqb x.kind x.kind refl, eq-eqb x.part x.part refl, same_places_refl x.places) refl
 
 found_by : (x : Landing) (b : Bool) (o o' : Option ℕ) (n : ℕ) → ((m : ℕ) → o ≡ Some m → (j : ℕ) × (o' ≡ Some j)) → (if b then Some 0 else option_map suc o) ≡ Some n → (j : ℕ) × ((if b then Some 0 else option_map suc o') ≡ Some j)
 found_by x true o o' n f e = (0, refl)
@@ -122,31 +122,31 @@ grows_some : (o : Option Landing) (xs : List Landing) → Within xs (with_some o
 grows_some None xs y f = f
 grows_some (Some x) xs y f = grows_unless (number_of x xs) x xs y f
 
-grows_call : (b : Bool) (es : List Place) (xs : List Landing) → Within xs (landing_call b es xs)
-grows_call true es xs y f = f
-grows_call false es xs y f = grows_unless (number_of (landing_behind es) xs) (landing_behind es) xs y f
+grows_call : (p : ℕ) (b : Bool) (es : List Place) (xs : List Landing) → Within xs (landing_call p b es xs)
+grows_call p true es xs y f = f
+grows_call p false es xs y f = grows_unless (number_of (landing_behind p es) xs) (landing_behind p es) xs y f
 
 module _ (C : Ctx) where
   abbrev Grows : (List Place → List Landing → List Landing) → Type 0
   Grows go = (es' : List Place) (xs' : List Landing) → Within xs' (go es' xs')
 
-  grows_called : (b : Bool) (o : Option FuncType) (es : List Place) (xs : List Landing) (go : List Place → List Landing → List Landing) → Grows go → Within xs (landings_call b o es xs go)
-  grows_called b None es xs go g y f = f
-  grows_called b (Some type) es xs go g y f = let left = less (length type.params) es in g (grown (result_of type) left) (landing_call b left xs) y (grows_call b left xs y f)
+  grows_called : (p : ℕ) (b : Bool) (o : Option FuncType) (es : List Place) (xs : List Landing) (go : List Place → List Landing → List Landing) → Grows go → Within xs (landings_call p b o es xs go)
+  grows_called p b None es xs go g y f = f
+  grows_called p b (Some type) es xs go g y f = let left = less (length type.params) es in g (grown (result_of type) left) (landing_call p b left xs) y (grows_call p b left xs y f)
 
-  grows_jump : (j : Jump) (es : List Place) (xs : List Landing) (go : List Place → List Landing → List Landing) → Grows go → Within xs (landings_jump C j es xs go)
-  grows_jump Unreachable es xs go g y f = f
-  grows_jump (Br l) es xs go g y f = f
-  grows_jump (BrIf l) es xs go g y f = g (less 1 es) xs y f
-  grows_jump (BrTable ts d) es xs go g y f = f
-  grows_jump Return es xs go g y f = f
-  grows_jump (Call h) es xs go g y f = grows_called (nat_lt h (import_count C.source)) (type_at C.source h) es xs go g y f
-  grows_jump (CallIndirect t) es xs go g y f = grows_called true (slice_get C.source.types t) (less 1 es) xs go g y f
+  grows_jump : (p : ℕ) (j : Jump) (es : List Place) (xs : List Landing) (go : List Place → List Landing → List Landing) → Grows go → Within xs (landings_jump C p j es xs go)
+  grows_jump p Unreachable es xs go g y f = f
+  grows_jump p (Br l) es xs go g y f = f
+  grows_jump p (BrIf l) es xs go g y f = g (less 1 es) xs y f
+  grows_jump p (BrTable ts d) es xs go g y f = f
+  grows_jump p Return es xs go g y f = f
+  grows_jump p (Call h) es xs go g y f = grows_called p (nat_lt h (import_count C.source)) (type_at C.source h) es xs go g y f
+  grows_jump p (CallIndirect t) es xs go g y f = grows_called p true (slice_get C.source.types t) (less 1 es) xs go g y f
 
   grows : (es : List Place) (nodes : Nodes) (xs : List Landing) → Within xs (landings_from C es nodes xs)
   grows es stop xs y f = f
   grows es (basic o i rest) xs y f = grows (after_plain C es i) rest (with_some (landing_at C o i es) xs) y (grows_some (landing_at C o i es) xs y f)
-  grows es (jump o j rest) xs y f = grows_jump j es xs (λ es' xs'. landings_from C es' rest xs') (λ es' xs' y' f'. grows es' rest xs' y' f') y f
+  grows es (jump o j rest) xs y f = grows_jump (part_of C.locals o) j es xs (λ es' xs'. landings_from C es' rest xs') (λ es' xs' y' f'. grows es' rest xs' y' f') y f
   grows es (block o t inner end rest) xs y f = grows (grown t (under es)) rest (landings_from C (under es) inner xs) y (grows (under es) inner xs y f)
   grows es (loop o t inner end rest) xs y f = grows (grown t (under es)) rest (landings_from C (under es) inner xs) y (grows (under es) inner xs y f)
   grows es (choose o t a ea b end rest) xs y f =
@@ -182,31 +182,31 @@ module _ (C : Ctx) where
   abbrev Paid : (List Place → List Landing → List Landing) → (List Place → ℕ) → Type 0
   Paid go pays = (es' : List Place) (xs' : List Landing) → Within (go es' xs') C.landings → costs_of (go es' xs') ≤ costs_of xs' + pays es'
 
-  paid_called : (b : Bool) (o : Option FuncType) (es : List Place) (xs : List Landing) (go : List Place → List Landing → List Landing) (pays : List Place → ℕ) → Grows go → Paid go pays → Within (landings_call b o es xs go) C.landings → costs_of (landings_call b o es xs go) ≤ costs_of xs + (charge_call b C o es + behind_call o es pays)
-  paid_called b None es xs go pays g p w = omega arith
-  paid_called true (Some type) es xs go pays g p w =
+  paid_called : (p : ℕ) (b : Bool) (o : Option FuncType) (es : List Place) (xs : List Landing) (go : List Place → List Landing → List Landing) (pays : List Place → ℕ) → Grows go → Paid go pays → Within (landings_call p b o es xs go) C.landings → costs_of (landings_call p b o es xs go) ≤ costs_of xs + (charge_call p b C o es + behind_call o es pays)
+  paid_called p b None es xs go pays g h w = omega arith
+  paid_called p true (Some type) es xs go pays g h w =
       let left = less (length type.params) es in
-      let a = p (grown (result_of type) left) xs w in
+      let a = h (grown (result_of type) left) xs w in
       omega (arith, a)
-  paid_called false (Some type) es xs go pays g p w =
+  paid_called p false (Some type) es xs go pays g h w =
       let left = less (length type.params) es in
-      let xs1 = with_landing (landing_behind left) xs in
-      let a = p (grown (result_of type) left) xs1 w in
-      let b = paid_some (Some (landing_behind left)) xs (λ y f. w y (g (grown (result_of type) left) xs1 y f)) in
+      let xs1 = with_landing (landing_behind p left) xs in
+      let a = h (grown (result_of type) left) xs1 w in
+      let b = paid_some (Some (landing_behind p left)) xs (λ y f. w y (g (grown (result_of type) left) xs1 y f)) in
       omega (arith, a, b)
 
-  paid_jump : (j : Jump) (es : List Place) (xs : List Landing) (go : List Place → List Landing → List Landing) (pays : List Place → ℕ) → Grows go → Paid go pays → Within (landings_jump C j es xs go) C.landings → costs_of (landings_jump C j es xs go) ≤ costs_of xs + (charge_jump C j es + behind_jump C j es pays)
-  paid_jump Unreachable es xs go pays g p w = omega arith
-  paid_jump (Br l) es xs go pays g p w = omega arith
-  paid_jump (BrIf l) es xs go pays g p w = let a = p (less 1 es) xs w in omega (arith, a)
-  paid_jump (BrTable ts d) es xs go pays g p w = omega arith
-  paid_jump Return es xs go pays g p w = omega arith
-  paid_jump (Call f) es xs go pays g p w = paid_called (nat_lt f (import_count C.source)) (type_at C.source f) es xs go pays g p w
-  paid_jump (CallIndirect t) es xs go pays g p w = through (slice_get C.source.types t) w
+  paid_jump : (p : ℕ) (j : Jump) (es : List Place) (xs : List Landing) (go : List Place → List Landing → List Landing) (pays : List Place → ℕ) → Grows go → Paid go pays → Within (landings_jump C p j es xs go) C.landings → costs_of (landings_jump C p j es xs go) ≤ costs_of xs + (charge_jump C p j es + behind_jump C j es pays)
+  paid_jump p Unreachable es xs go pays g h w = omega arith
+  paid_jump p (Br l) es xs go pays g h w = omega arith
+  paid_jump p (BrIf l) es xs go pays g h w = let a = h (less 1 es) xs w in omega (arith, a)
+  paid_jump p (BrTable ts d) es xs go pays g h w = omega arith
+  paid_jump p Return es xs go pays g h w = omega arith
+  paid_jump p (Call f) es xs go pays g h w = paid_called p (nat_lt f (import_count C.source)) (type_at C.source f) es xs go pays g h w
+  paid_jump p (CallIndirect t) es xs go pays g h w = through (slice_get C.source.types t) w
     where
-      through : (o : Option FuncType) → Within (landings_call true o (less 1 es) xs go) C.landings → costs_of (landings_call true o (less 1 es) xs go) ≤ costs_of xs + (0 + behind_call o (less 1 es) pays)
+      through : (o : Option FuncType) → Within (landings_call p true o (less 1 es) xs go) C.landings → costs_of (landings_call p true o (less 1 es) xs go) ≤ costs_of xs + (0 + behind_call o (less 1 es) pays)
       through None w = omega arith
-      through (Some type) w = let a = p (grown (result_of type) (less (length type.params) (less 1 es))) xs w in omega (arith, a)
+      through (Some type) w = let a = h (grown (result_of type) (less (length type.params) (less 1 es))) xs w in omega (arith, a)
 
   paid : (es : List Place) (nodes : Nodes) (xs : List Landing) → Within (landings_from C es nodes xs) C.landings → costs_of (landings_from C es nodes xs) ≤ costs_of xs + charged C es nodes
   paid es stop xs w = omega arith
@@ -215,7 +215,7 @@ module _ (C : Ctx) where
       let a = paid (after_plain C es i) rest xs1 w in
       let b = paid_some (landing_at C o i es) xs (λ y f. w y (grows (after_plain C es i) rest xs1 y f)) in
       omega (arith, a, b)
-  paid es (jump o j rest) xs w = paid_jump j es xs (λ es' xs'. landings_from C es' rest xs') (λ es'. charged C es' rest) (λ es' xs' y f. grows es' rest xs' y f) (λ es' xs' w'. paid es' rest xs' w') w
+  paid es (jump o j rest) xs w = paid_jump (part_of C.locals o) j es xs (λ es' xs'. landings_from C es' rest xs') (λ es'. charged C es' rest) (λ es' xs' y f. grows es' rest xs' y f) (λ es' xs' w'. paid es' rest xs' w') w
   paid es (block o t inner end rest) xs w =
       let xs1 = landings_from C (under es) inner xs in
       let a = paid (grown t (under es)) rest xs1 w in

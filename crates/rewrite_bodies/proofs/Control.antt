@@ -14,7 +14,7 @@ use Rattle.wasm_syntax.specs.declared.host.CollectorCall.{CollectorCall}
 use Rattle.wasm_syntax.specs.Machine.{Kind, leaves, again, returns, Label, Frame, Config, label, frame, Engine, top, exactly, Went, arrive, arrive_some, out_some, leave, loops, land, branch, carried_by, carry, same_result, same_carry, pick, deliver, moved, branch_if, moved_if, branch_table}
 use Rattle.rewrite_bodies.specs.calls.Slots.{added, Place, Spilled, Ctx, slot, kind_at, offset_at, grown, under}
 use Rattle.rewrite_bodies.specs.calls.Rewrite.{hand_left, test_flag, test_both, with_result, rewrite, get_flag, checked}
-use Rattle.rewrite_bodies.specs.calls.Landings.{number_of, landing_behind}
+use Rattle.rewrite_bodies.specs.calls.Landings.{number_of, landing_behind, part_of}
 use Rattle.rewrite_bodies.proofs.Landed.{marked, types_marked, fits_marked, br_if_down, mark_to, first_kind, l_below, l_head}
 use Rattle.rewrite_bodies.specs.Numbering.{mapped, flag_of, global_types}
 use Rattle.rewrite_bodies.specs.calls.Pieces.{get, set, const, if_any, keep, store, reload, drops}
@@ -70,11 +70,11 @@ module _ (M M' : Engine) (E : ℕ) (gl : List ValType) (W : Wrap) where
 
   -- the added locals behind the test of a call that left these operands
   abbrev pub behind_test : Ctx → List Place → ℕ → List Value → List Value
-  behind_test C es o ex = marked (number_of (landing_behind es) C.landings) C o ex
+  behind_test C es o ex = marked (number_of (landing_behind (part_of C.locals o) es) C.landings) C o ex
 
   -- the flag is down behind a call
   pub flag_down : (C : Ctx) (X : Shell) (l ex s : List Value) (g : World) (co : List CollectorCall) (d : ℕ) (es : List Place) (o : ℕ) (k : Nodes) → length C.locals ≡ length l → types ex ≡ added C.slots → flag_of C.source ≡ length g.globals → To M' 1 5 (st X (l ++ ex) s (test_flag C d es o k) (flagged M g (values.I32 0)) co) (st X (l ++ behind_test C es o ex) s k (flagged M g (values.I32 0)) co)
-  flag_down C X l ex s g co d es o k size room fl = by_number (number_of (landing_behind es) C.landings)
+  flag_down C X l ex s g co d es o k size room fl = by_number (number_of (landing_behind (part_of C.locals o) es) C.landings)
     where
       by_number : (q : Option ℕ) → To M' 1 5 (st X (l ++ ex) s (checked q C d es o (get_flag C) (const (values.I32 0)) k) (flagged M g (values.I32 0)) co) (st X (l ++ marked q C o ex) s k (flagged M g (values.I32 0)) co)
       by_number None = weaken M' (seq M' (flag_to C g 0 fl) (if_zero_to M')) (omega arith) (omega arith)
@@ -112,8 +112,8 @@ module _ (M M' : Engine) (E : ℕ) (gl : List ValType) (W : Wrap) where
       let te = types-stored r (λ t. slot t (length es)) vs ex pl x in
       let ex2 = behind_test C es cl ex' in
       let low = room_height C (grown r e ++ joined ss) L.nodes hs.2 in
-      let hs2 = fits_marked (number_of (landing_behind es) C.landings) C cl l ex' None (label (vs ++ L.operands) L.nodes L.end L.kind ∷ Ls) (grown r e ∷ ss) low hs in
-      let te2 = types_marked (number_of (landing_behind es) C.landings) C cl ex' (te ∙ f.room) ∙ te in
+      let hs2 = fits_marked (number_of (landing_behind (part_of C.locals cl) es) C.landings) C cl l ex' None (label (vs ++ L.operands) L.nodes L.end L.kind ∷ Ls) (grown r e ∷ ss) low hs in
+      let te2 = types_marked (number_of (landing_behind (part_of C.locals cl) es) C.landings) C cl ex' (te ∙ f.room) ∙ te in
       let s2 = flag_down C X l ex' (vs ++ L.operands) g co d es cl k size (te ∙ f.room) (flag_len C g (gl_.globals ∙ sym f.flag)) in (
         wit C ex2 (grown r e ∷ ss) ∷ ws,
         (gl_, (refit l (label (vs ++ L.operands) L.nodes L.end L.kind ∷ Ls) ex2 (grown r e ∷ ss) None cl f refl te2 hs2, fs)),

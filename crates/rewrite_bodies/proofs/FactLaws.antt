@@ -1,30 +1,35 @@
 -- The facts of a function: what is exposed makes its code sound; facts stay where the memory gets longer, where other locals are written, and behind
 -- an instruction; and an access that is answered does not trap.
-use Rattle.std.proofs.Common.{◌≡◌, ◌≢◌, ℕ, zero, suc, ◌+◌, ◌*◌, ◌≤◌, ◌/◌, ◌==◌, ◌&&◌, ◌||◌, not, nat_le, nat_lt, List, [], ◌∷◌, ◌++◌, length, Option, Some, None, Bool, true, false, refl, sym, ap, ◌∙◌, subst, arith, slice_get, slice_set, if◌then◌else◌, inl, inr, leb-true, length-append, replicate}
-use Rattle.std.proofs.lemmas.Bool.{eq-eqb, eqb-true, eqb-false, le-leb, and_parts}
-use Rattle.wasm_syntax.specs.declared.value.ValType.TheVariants.{I32}
+use Rattle.std.proofs.Common.{◌≡◌, ◌≢◌, ℕ, zero, suc, ◌+◌, ◌≤◌, ◌/◌, ◌==◌, ◌&&◌, ◌||◌, not, nat_le, nat_lt, List, [], ◌∷◌, ◌++◌, length, Option, Some, None, Bool, true, false, refl, sym, ap, ◌∙◌, subst, arith, slice_get, slice_set, if◌then◌else◌, inl, inr, Result, Ok, Err, leb-true}
+use Rattle.std.proofs.lemmas.Bool.{eq-eqb, eqb-true, le-leb, and_parts}
+use Rattle.wasm_syntax.specs.declared.value.ValType.TheVariants.{I32, I64}
+use Rattle.wasm_syntax.specs.declared.value.ValType.{ValType}
 use Rattle.wasm_syntax.specs.declared.value.Value.{Value}
 use Rattle.wasm_syntax.specs.declared.value.Value.TheVariants as values
 use Rattle.wasm_syntax.specs.declared.instruction.Basic.{Basic}
 use Rattle.wasm_syntax.specs.declared.instruction.Basic.TheVariants.{Nop, Drop, Select, LocalGet, LocalSet, LocalTee, GlobalGet, GlobalSet, Load, Store, MemorySize, MemoryGrow, MemoryCopy, MemoryFill, Const, Eqz, Unary, Compare, Binary, Convert, Extend32, Extend64}
 use Rattle.wasm_syntax.specs.declared.instruction.Load.{Load as Loading}
 use Rattle.wasm_syntax.specs.declared.instruction.Store.{Store as Storing}
-use Rattle.wasm_syntax.specs.Numbers.{number, value}
+use Rattle.wasm_syntax.specs.declared.parts.Limits.{Limits}
+use Rattle.int_ops.specs.declared.operators.ArithTrap.{ArithTrap}
+use Rattle.int_ops.specs.Integers.{extend32, extend64}
+use Rattle.wasm_syntax.specs.Numbers.{number, value, type_of, same_type, modulo, bool_number, unary, compare, binary, convert, convert_from, convert_to}
 use Rattle.wasm_syntax.specs.Access.{load_type, load_bits, loaded, store_type, store_bits}
 use Rattle.wasm_syntax.specs.Tree.{Nodes, stop, basic, jump, block, loop, choose}
 use Rattle.wasm_syntax.specs.Host.{World}
-use Rattle.wasm_syntax.specs.Effect.{Effect, gives, fails, effect, takes, address, with_memory, with_some, in_bounds}
+use Rattle.wasm_syntax.specs.Effect.{Effect, gives, fails, effect, takes, address, with_memory, with_some, on_one, on_two, in_bounds, divides, unfit, over, when}
 use Rattle.wasm_syntax.specs.Machine.{Kind, Label, parts, cut}
 use Rattle.wasm_syntax.specs.calls.Classes.{EffectClass, Pure, Dividing, Accessing, SetsLocal, SetsGlobal, effect_class, local_of, Accessed, MayWrite, MayGive, Does, Risky, risky_binary, risky_load, risky_store, risky_copy, risky_fill}
 use Rattle.wasm_syntax.proofs.Classes.{acts_as_class}
-use Rattle.linear_memory.specs.Memory.{Memory, pages, grow, to_bytes, from_bytes}
+use Rattle.linear_memory.specs.Memory.{Memory, pages, to_bytes, from_bytes}
 use Rattle.linear_memory.specs.Memory as memories
 use Rattle.rewrite_bodies.specs.calls.Slots.{local_written, Ctx}
 use Rattle.rewrite_bodies.specs.calls.Guards.{can_trap}
-use Rattle.rewrite_bodies.specs.calls.Facts.{is_local, written, frail, Fact, answered, keep_if, others, most_facts, one_noted, Copies, no_copies, copies_behind, reach, shown, is_answered, noted, facts_behind, if_exposed, exposed_from, exposed_in, among, needs}
-use Rattle.rewrite_bodies.specs.calls.Known.{Reaches, FactHolds, FactsHold, IsCopy, CopiesHold, Within, Steady, Sound, KnownOuter, KnownAt}
-use Rattle.rewrite_bodies.proofs.Run.{slice_get-put_other}
-use Rattle.rewrite_bodies.proofs.Parts.{put_fits}
+use Rattle.rewrite_bodies.specs.calls.Facts.{is_local, written, frail, Fact, answered, keep_if, others, first_facts, most_facts, one_noted, Copies, no_copies, under_one, without_top, unless, unless_on, other_copies, copies_behind, reach, shown, is_answered, noted, facts_behind, if_exposed, exposed_from, exposed_in, among, needs, Base, Zero, Local, same_base, is_on, Copy, copy_of, number_of}
+use Rattle.rewrite_bodies.specs.calls.Known.{Reaches, HasLeast, FactHolds, FactsHold, IsCopy, under_top, CopiesHold, Within, Steady, Sound, KnownOuter, KnownAt, Extends, Stands}
+use Rattle.rewrite_bodies.proofs.Run.{slice_get-put_other, slice_get-put_same}
+use Rattle.rewrite_bodies.proofs.Parts.{types_get}
+use Rattle.rewrite_bodies.proofs.Longer.{Longer, longer_refl, reaches_longer, put_longer, copy_longer, grow_longer}
 use Rattle.rewrite_bodies.proofs.Risks.{risk_of}
 
 -- ---- booleans
@@ -118,34 +123,22 @@ sound_from all these fs c (choose o t x ea y end rest) s w =
       sound_from all these kept no_copies rest (λ p h. s p (among_back p a (b ++ d) (among_back p b d h))) in_rest,
     )
 
-pub sound_all : (nodes : Nodes) → Sound (exposed_in nodes) (frail nodes) [] no_copies nodes
-sound_all nodes = sound_from (exposed_in nodes) (frail nodes) [] no_copies nodes (λ o h. h) (λ x h. h)
+pub sound_all : (ls : List Limits) (nodes : Nodes) → Sound (exposed_in ls nodes) (frail nodes) (first_facts ls) no_copies nodes
+sound_all ls nodes = sound_from (exposed_in ls nodes) (frail nodes) (first_facts ls) no_copies nodes (λ o h. h) (λ x h. h)
+
+pub first_hold : (l : List Value) (mem : Option Memory) (ls : List Limits) → HasLeast ls mem → FactsHold l mem (first_facts ls)
+first_hold l mem [] h = tt
+first_hold l mem (x ∷ ls) h = (h, tt)
 
 -- ---- a memory that got longer
 
-abbrev pub Longer : Option Memory → Option Memory → Type 0
-Longer None b = Unit {0}
-Longer (Some m) None = ⊥
-Longer (Some m) (Some n) = length m.bytes ≤ length n.bytes
-
-pub longer_refl : (a : Option Memory) → Longer a a
-longer_refl None = tt
-longer_refl (Some m) = omega arith
-
-pub longer_trans : (a b c : Option Memory) → Longer a b → Longer b c → Longer a c
-longer_trans None b c h k = tt
-longer_trans (Some m) None c h k = absurd h
-longer_trans (Some m) (Some n) None h k = absurd k
-longer_trans (Some m) (Some n) (Some j) h k = omega (arith, h, k)
-
-reaches_longer : (a b : Option Memory) (n : ℕ) → Longer a b → Reaches a n → Reaches b n
-reaches_longer None b n h r = absurd r
-reaches_longer (Some m) None n h r = absurd h
-reaches_longer (Some m) (Some j) n h r = omega (arith, h, r)
+extends_longer : (l : List Value) (a b : Option Memory) (k : Base) (n : ℕ) → Longer a b → Extends l a k n → Extends l b k n
+extends_longer l a b Zero n le h = reaches_longer a b n le h
+extends_longer l a b (Local x) n le h = (h.0, h.1, reaches_longer a b (address h.0 n) le h.2)
 
 pub facts_longer : (l : List Value) (a b : Option Memory) (fs : List Fact) → Longer a b → FactsHold l a fs → FactsHold l b fs
 facts_longer l a b [] le h = tt
-facts_longer l a b (f ∷ fs) le h = ((h.0.0, h.0.1, reaches_longer a b (address h.0.0 f.end) le h.0.2), facts_longer l a b fs le h.1)
+facts_longer l a b (f ∷ fs) le h = (extends_longer l a b f.base f.end le h.0, facts_longer l a b fs le h.1)
 
 pub outer_longer : (os : List ℕ) (these : ℕ → Bool) (l : List Value) (a b : Option Memory) (Ls : List Label) (fss : List (List Fact)) → Longer a b → KnownOuter os these l a Ls fss → KnownOuter os these l b Ls fss
 outer_longer os these l a b [] fss le h = tt
@@ -160,15 +153,15 @@ kept_holds l mem false f fs h hs = hs
 
 pub others_hold : (l : List Value) (mem : Option Memory) (these : ℕ → Bool) (fs : List Fact) → FactsHold l mem fs → FactsHold l mem (others these fs)
 others_hold l mem these [] h = tt
-others_hold l mem these (f ∷ fs) h = kept_holds l mem (not (these f.local)) f (others these fs) h.0 (others_hold l mem these fs h.1)
+others_hold l mem these (f ∷ fs) h = kept_holds l mem (not (is_on these f.base)) f (others these fs) h.0 (others_hold l mem these fs h.1)
 
-steady_kept : (these : ℕ → Bool) (b : Bool) (f : Fact) (fs : List Fact) → these f.local ≡ b → Steady these fs → Steady these (keep_if (not b) f fs)
+steady_kept : (these : ℕ → Bool) (b : Bool) (f : Fact) (fs : List Fact) → is_on these f.base ≡ b → Steady these fs → Steady these (keep_if (not b) f fs)
 steady_kept these true f fs e h = h
 steady_kept these false f fs e h = (e, h)
 
 pub others_steady : (these : ℕ → Bool) (fs : List Fact) → Steady these (others these fs)
 others_steady these [] = tt
-others_steady these (f ∷ fs) = steady_kept these (these f.local) f (others these fs) refl (others_steady these fs)
+others_steady these (f ∷ fs) = steady_kept these (is_on these f.base) f (others these fs) refl (others_steady these fs)
 
 pub steady_same : (these : ℕ → Bool) (fs : List Fact) → Steady these fs → others these fs ≡ fs
 steady_same these [] h = refl
@@ -192,16 +185,21 @@ noted_holds l mem (Some f) fs h k = one_noted_holds l mem (not (answered f fs) &
 
 -- ---- a local that is written
 
-other_local : (l : List Value) (mem : Option Memory) (x : ℕ) (v : Value) (f : Fact) → f.local ≢ x → FactHolds l mem f → FactHolds (slice_set l x v) mem f
-other_local l mem x v f ne h = (h.0, slice_get-put_other l f.local x v ne ∙ h.1, h.2)
+-- on no local for which this test holds, and it holds for x
+other_base : (l : List Value) (mem : Option Memory) (these : ℕ → Bool) (x : ℕ) (v : Value) (k : Base) (n : ℕ) → these x ≡ true → is_on these k ≡ false → Extends l mem k n → Extends (slice_set l x v) mem k n
+other_base l mem these x v Zero n t e h = h
+other_base l mem these x v (Local y) n t e h = let ne : y ≢ x = λ z. differs (ap these z) in (h.0, slice_get-put_other l y x v ne ∙ h.1, h.2)
+  where
+    differs : these y ≡ these x → ⊥
+    differs z = cc
 
-freed_holds : (l : List Value) (mem : Option Memory) (x : ℕ) (v : Value) (b : Bool) (f : Fact) (fs : List Fact) → (x == f.local) ≡ b → FactHolds l mem f → FactsHold (slice_set l x v) mem fs → FactsHold (slice_set l x v) mem (keep_if (not b) f fs)
+freed_holds : (l : List Value) (mem : Option Memory) (x : ℕ) (v : Value) (b : Bool) (f : Fact) (fs : List Fact) → is_on (is_local (Some x)) f.base ≡ b → FactHolds l mem f → FactsHold (slice_set l x v) mem fs → FactsHold (slice_set l x v) mem (keep_if (not b) f fs)
 freed_holds l mem x v true f fs e h hs = hs
-freed_holds l mem x v false f fs e h hs = (other_local l mem x v f (λ z. eqb-false x f.local e (sym z)) h, hs)
+freed_holds l mem x v false f fs e h hs = (other_base l mem (is_local (Some x)) x v f.base f.end (same_number x) e h, hs)
 
 set_holds : (l : List Value) (mem : Option Memory) (x : ℕ) (v : Value) (fs : List Fact) → FactsHold l mem fs → FactsHold (slice_set l x v) mem (others (is_local (Some x)) fs)
 set_holds l mem x v [] h = tt
-set_holds l mem x v (f ∷ fs) h = freed_holds l mem x v (x == f.local) f (others (is_local (Some x)) fs) refl h.0 (set_holds l mem x v fs h.1)
+set_holds l mem x v (f ∷ fs) h = freed_holds l mem x v (is_on (is_local (Some x)) f.base) f (others (is_local (Some x)) fs) refl h.0 (set_holds l mem x v fs h.1)
 
 abbrev pub Wrote : Option ℕ → List Value → List Value → Type 0
 Wrote None l l' = l' ≡ l
@@ -213,10 +211,7 @@ written_holds (Some x) l l' mem fs w h = subst (λ z. FactsHold z mem (others (i
 
 steady_set : (these : ℕ → Bool) (l : List Value) (mem : Option Memory) (x : ℕ) (v : Value) (fs : List Fact) → these x ≡ true → Steady these fs → FactsHold l mem fs → FactsHold (slice_set l x v) mem fs
 steady_set these l mem x v [] e s h = tt
-steady_set these l mem x v (f ∷ fs) e s h = (other_local l mem x v f (λ z. differs (ap these z)) h.0, steady_set these l mem x v fs e s.1 h.1)
-  where
-    differs : these f.local ≡ these x → ⊥
-    differs z = let k : these f.local ≡ false = s.0 in cc
+steady_set these l mem x v (f ∷ fs) e s h = (other_base l mem these x v f.base f.end e s.0 h.0, steady_set these l mem x v fs e s.1 h.1)
 
 outer_set : (os : List ℕ) (these : ℕ → Bool) (l : List Value) (mem : Option Memory) (x : ℕ) (v : Value) (Ls : List Label) (fss : List (List Fact)) → these x ≡ true → KnownOuter os these l mem Ls fss → KnownOuter os these (slice_set l x v) mem Ls fss
 outer_set os these l mem x v [] fss e h = tt
@@ -260,20 +255,6 @@ gives_locals Accessing w w' l l' h = h.0
 gives_locals (SetsLocal x) w w' l l' h = (h.1, h.2)
 gives_locals (SetsGlobal x) w w' l l' h = h.0
 
-copy_longer : (m m' : Memory) (to from n : ℕ) (q : Bool) → (if q then memories.put m to (memories.window m.bytes from n) else None) ≡ Some m' → length m.bytes ≤ length m'.bytes
-copy_longer m m' to from n true e =
-    let p = put_fits m m' to (memories.window m.bytes from n) (nat_le (to + length (memories.window m.bytes from n)) (length m.bytes)) refl e in omega (arith, p.0)
-copy_longer m m' to from n false e = absurd (cc)
-
-grow_longer : (m m' : Memory) (n : ℕ) (q : Bool) → (if q then Some (record m { bytes = m.bytes ++ replicate (65536 * n) 0 }) else None) ≡ Some m' → length m.bytes ≤ length m'.bytes
-grow_longer m m' n true e =
-    let z : record m { bytes = m.bytes ++ replicate (65536 * n) 0 } ≡ m' = cc in
-    omega (arith, ap (λ k. length k.bytes) z, length-append m.bytes (replicate (65536 * n) 0))
-grow_longer m m' n false e = absurd (cc)
-
-pub put_longer : (m m' : Memory) (at : ℕ) (new : List ℕ) → memories.put m at new ≡ Some m' → length m.bytes ≤ length m'.bytes
-put_longer m m' at new e = let p = put_fits m m' at new (nat_le (at + length new) (length m.bytes)) refl e in omega (arith, p.0)
-
 accessed_longer : (m m' : Memory) → Accessed m m' → length m.bytes ≤ length m'.bytes
 accessed_longer m m' (inl (at, bytes, e)) = put_longer m m' at bytes e
 accessed_longer m m' (inr (inl (to, from, n, e))) = copy_longer m m' to from n (nat_le (from + n) (length m.bytes)) e
@@ -295,6 +276,63 @@ pub does_to : (i : Basic) (w w' : World) (l l' vs ws : List Value) → effect i 
 does_to i w w' l l' vs ws e =
     let d : Does (effect_class i) w l (gives w' l' ws) = subst (Does (effect_class i) w l) e (acts_as_class w l i vs) in
     (subst (λ o. Wrote o l l') (sym (written_is i)) (gives_locals (effect_class i) w w' l l' d), gives_longer (effect_class i) w w' l l' d)
+
+-- ---- copies
+
+-- under the topmost operand
+top_leaves : (l : List Value) (c : Copies) (v : Value) (ops : List Value) → CopiesHold l c (v ∷ ops) → CopiesHold l (without_top c) ops
+top_leaves l c v ops h = (h.1, h.2, tt)
+
+-- where a local is written
+stands_other : (l : List Value) (x : ℕ) (v : Value) (k : Base) (p : ℕ) (w : Value) → is_on (is_local (Some x)) k ≡ false → Stands l k p w → Stands (slice_set l x v) k p w
+stands_other l x v Zero p w e h = h
+stands_other l x v (Local y) p w e h = let ne : y ≢ x = λ z. differs (ap (λ n. x == n) z) in (slice_get-put_other l y x v ne ∙ h.0, h.1)
+  where
+    differs : (x == y) ≡ (x == x) → ⊥
+    differs z = let t : (x == x) ≡ true = same_number x in cc
+
+unless_holds : (l : List Value) (x : ℕ) (v : Value) (k : Copy) (b : Bool) (ops : List Value) → is_on (is_local (Some x)) k.base ≡ b → IsCopy l (Some k) ops → IsCopy (slice_set l x v) (unless b k) ops
+unless_holds l x v k true ops e h = tt
+unless_holds l x v k false [] e h = absurd h
+unless_holds l x v k false (w ∷ ops) e h = stands_other l x v k.base k.plus w e h
+
+other_copied : (l : List Value) (x : ℕ) (v : Value) (q : Option Copy) (ops : List Value) → IsCopy l q ops → IsCopy (slice_set l x v) (unless_on (is_local (Some x)) q) ops
+other_copied l x v None ops h = tt
+other_copied l x v (Some k) ops h = unless_holds l x v k (is_on (is_local (Some x)) k.base) ops refl h
+
+others_copied : (l : List Value) (x : ℕ) (v : Value) (c : Copies) (ops : List Value) → CopiesHold l c ops → CopiesHold (slice_set l x v) (other_copies (is_local (Some x)) c) ops
+others_copied l x v c ops h = (other_copied l x v c.first ops h.0, other_copied l x v c.second (under_top ops) h.1, other_copied l x v c.third (under_top (under_top ops)) h.2)
+
+-- ---- one value is given, and no local is written
+
+module _ (l : List Value) where
+  abbrev pub OneGiven : Effect → Type 0
+  OneGiven (gives g' l' ws) = (l' ≡ l) × (w : Value) × (ws ≡ w ∷ [])
+  OneGiven (fails k) = Unit {0}
+  OneGiven unfit = Unit {0}
+
+  given_some : {A : Type 0} (o : Option A) (go : A → Effect) → ((x : A) → OneGiven (go x)) → OneGiven (with_some o go)
+  given_some None go h = tt
+  given_some (Some x) go h = h x
+
+  given_one : (t : ValType) (go : ℕ → Effect) (vs : List Value) → ((n : ℕ) → OneGiven (go n)) → OneGiven (on_one t go vs)
+  given_one t go [] h = tt
+  given_one t go (v ∷ []) h = given_some (number t v) go h
+  given_one t go (v ∷ _ ∷ _) h = tt
+
+  given_two : (t u : ValType) (go : ℕ → ℕ → Effect) (vs : List Value) → ((n m : ℕ) → OneGiven (go n m)) → OneGiven (on_two t u go vs)
+  given_two t u go [] h = tt
+  given_two t u go (v ∷ []) h = tt
+  given_two t u go (v ∷ w ∷ []) h = given_some (number t v) (λ n. with_some (number u w) (go n)) (λ n. given_some (number u w) (go n) (h n))
+  given_two t u go (v ∷ w ∷ _ ∷ _) h = tt
+
+  given_bounded : {A : Type 0} (o : Option A) (go : A → Effect) → ((x : A) → OneGiven (go x)) → OneGiven (in_bounds o go)
+  given_bounded None go h = tt
+  given_bounded (Some x) go h = h x
+
+  given_divided : (r : Result ℕ ArithTrap) (go : ℕ → Effect) → ((n : ℕ) → OneGiven (go n)) → OneGiven (divides r go)
+  given_divided (Ok n) go h = h n
+  given_divided (Err trap) go h = tt
 
 -- ---- what an access shows, and one that is answered
 
@@ -328,20 +366,28 @@ module _ (g : World) (l : List Value) where
       let new = to_bytes (store_bits t / 8) n in
       put_in m a o (store_bits t / 8) new (λ m'. gives (with_memory g m') l []) (nat_le (address a o + length new) (length m.bytes)) g' l' ws (length-to_bytes (store_bits t / 8) n) refl e
 
-  -- of a copy
-  load_shows : (t : Loading) (o : ℕ) (q : Option ℕ) (v : Value) (ops : List Value) (align : ℕ) (g' : World) (l' ws : List Value) → IsCopy l q (v ∷ ops) → effect (Load t align o) g l (v ∷ []) ≡ gives g' l' ws → ShownHolds l g.memory (reach q (o + load_bits t / 8))
-  load_shows t o None v ops align g' l' ws h e = tt
-  load_shows t o (Some x) (values.I64 n) ops align g' l' ws h e = absurd (cc)
-  load_shows t o (Some x) (values.I32 a) ops align g' l' ws h e = (a, h, loads_reach t a o g.memory g' l' ws e)
+  -- of a number, or a copy
+  stands_reach : (r : Option Memory) (k : Base) (p a n : ℕ) → Stands l k p (values.I32 a) → Reaches r (address a n) → Extends l r k (p + n)
+  stands_reach r Zero p a n h e =
+      let same : values.I32 h.0 ≡ values.I32 a = sym h.1 in
+      let one : h.0 ≡ a = cc in
+      let z : modulo I32 a ≡ p = subst (λ x. modulo I32 x ≡ p) one h.2 in
+      subst (λ q. Reaches r (q + n)) z e
+  stands_reach r (Local x) p a n h e = let z : 0 + n ≡ n = omega arith in (a, h.0, subst (λ q. Reaches r (address a (q + n))) (sym h.1) (subst (λ q. Reaches r (address a q)) (sym z) e))
 
-  store_shows : (t : Storing) (o : ℕ) (q : Option ℕ) (v w : Value) (ops : List Value) (align : ℕ) (g' : World) (l' ws : List Value) → IsCopy l q (w ∷ ops) → effect (Store t align o) g l (v ∷ w ∷ []) ≡ gives g' l' ws → ShownHolds l g.memory (reach q (o + store_bits t / 8))
+  load_shows : (t : Loading) (o : ℕ) (q : Option Copy) (v : Value) (ops : List Value) (align : ℕ) (g' : World) (l' ws : List Value) → IsCopy l q (v ∷ ops) → effect (Load t align o) g l (v ∷ []) ≡ gives g' l' ws → ShownHolds l g.memory (reach q (o + load_bits t / 8))
+  load_shows t o None v ops align g' l' ws h e = tt
+  load_shows t o (Some k) (values.I64 n) ops align g' l' ws h e = absurd (cc)
+  load_shows t o (Some k) (values.I32 a) ops align g' l' ws h e = stands_reach g.memory k.base k.plus a (o + load_bits t / 8) h (loads_reach t a o g.memory g' l' ws e)
+
+  store_shows : (t : Storing) (o : ℕ) (q : Option Copy) (v w : Value) (ops : List Value) (align : ℕ) (g' : World) (l' ws : List Value) → IsCopy l q (w ∷ ops) → effect (Store t align o) g l (v ∷ w ∷ []) ≡ gives g' l' ws → ShownHolds l g.memory (reach q (o + store_bits t / 8))
   store_shows t o None v w ops align g' l' ws h e = tt
-  store_shows t o (Some x) v w ops align g' l' ws h e = by_number (number (store_type t) v) w h e
+  store_shows t o (Some k) v w ops align g' l' ws h e = by_number (number (store_type t) v) w h e
     where
-      by_number : (r : Option ℕ) (w : Value) → IsCopy l (Some x) (w ∷ ops) → with_some r (λ n. with_some (number I32 w) (λ a. Stores t n a o g.memory)) ≡ gives g' l' ws → ShownHolds l g.memory (reach (Some x) (o + store_bits t / 8))
+      by_number : (r : Option ℕ) (w : Value) → IsCopy l (Some k) (w ∷ ops) → with_some r (λ n. with_some (number I32 w) (λ a. Stores t n a o g.memory)) ≡ gives g' l' ws → ShownHolds l g.memory (reach (Some k) (o + store_bits t / 8))
       by_number None w h e = absurd (cc)
       by_number (Some n) (values.I64 a) h e = absurd (cc)
-      by_number (Some n) (values.I32 a) h e = (a, h, stores_reach t n a o g.memory g' l' ws e)
+      by_number (Some n) (values.I32 a) h e = stands_reach g.memory k.base k.plus a (o + store_bits t / 8) h (stores_reach t n a o g.memory g' l' ws e)
 
   pub shown_holds : (i : Basic) (c : Copies) (ops vs below : List Value) (g' : World) (l' ws : List Value) → CopiesHold l c ops → cut (takes i) ops ≡ parts vs below → effect i g l vs ≡ gives g' l' ws → ShownHolds l g.memory (shown i c)
   shown_holds (Load t align o) c [] vs below g' l' ws h u e = absurd (cc)
@@ -378,17 +424,25 @@ module _ (g : World) (l : List Value) where
   reaches_less None m n le h = absurd h
   reaches_less (Some k) m n le h = omega (arith, le, h)
 
-  found : (f h : Fact) (fs : List Fact) (b : Bool) → ((h.local == f.local) && nat_le f.end h.end) ≡ b → (b || answered f fs) ≡ true → FactHolds l g.memory h → (answered f fs ≡ true → FactHolds l g.memory f) → FactHolds l g.memory f
+  extends_less : (r : Option Memory) (k : Base) (m n : ℕ) → m ≤ n → Extends l r k n → Extends l r k m
+  extends_less r Zero m n le h = reaches_less r m n le h
+  extends_less r (Local x) m n le h = (h.0, h.1, reaches_less r (address h.0 m) (address h.0 n) (omega (arith, le)) h.2)
+
+  bases_are : (a b : Base) → same_base a b ≡ true → a ≡ b
+  bases_are Zero Zero e = refl
+  bases_are Zero (Local y) e = absurd (cc)
+  bases_are (Local x) Zero e = absurd (cc)
+  bases_are (Local x) (Local y) e = ap Local (eqb-true x y e)
+
+  found : (f h : Fact) (fs : List Fact) (b : Bool) → (same_base h.base f.base && nat_le f.end h.end) ≡ b → (b || answered f fs) ≡ true → FactHolds l g.memory h → (answered f fs ≡ true → FactHolds l g.memory f) → FactHolds l g.memory f
   found f h fs true b e k go =
-      let p = and_parts (h.local == f.local) (nat_le f.end h.end) b in
-      let same : h.local ≡ f.local = eqb-true h.local f.local p.0 in
-      let le : f.end ≤ h.end = leb-true f.end h.end p.1 in
-      (k.0, ap (slice_get l) (sym same) ∙ k.1, reaches_less g.memory (address k.0 f.end) (address k.0 h.end) (omega (arith, le)) k.2)
+      let p = and_parts (same_base h.base f.base) (nat_le f.end h.end) b in
+      subst (λ z. Extends l g.memory z f.end) (bases_are h.base f.base p.0) (extends_less g.memory h.base f.end h.end (leb-true f.end h.end p.1) k)
   found f h fs false b e k go = go e
 
   answer_holds : (f : Fact) (fs : List Fact) → answered f fs ≡ true → FactsHold l g.memory fs → FactHolds l g.memory f
   answer_holds f [] e h = absurd (cc)
-  answer_holds f (k ∷ fs) e h = found f k fs ((k.local == f.local) && nat_le f.end k.end) refl e h.0 (λ a. answer_holds f fs a h.1)
+  answer_holds f (k ∷ fs) e h = found f k fs (same_base k.base f.base && nat_le f.end k.end) refl e h.0 (λ a. answer_holds f fs a h.1)
 
   load_fits : (m : Memory) (a o k : ℕ) (go : ℕ → Effect) (q : Bool) (j : ℕ) → ((n : ℕ) → go n ≡ fails j → ⊥) → nat_le (address a o + k) (length m.bytes) ≡ q → address a (o + k) ≤ length m.bytes → in_bounds (if q then Some (from_bytes (memories.window m.bytes (address a o) k)) else None) go ≡ fails j → ⊥
   load_fits m a o k go true j never q le e = never (from_bytes (memories.window m.bytes (address a o) k)) e
@@ -409,26 +463,36 @@ module _ (g : World) (l : List Value) where
       let new = to_bytes (store_bits t / 8) n in
       put_fits_in m a o (store_bits t / 8) new (λ m'. gives (with_memory g m') l []) (nat_le (address a o + length new) (length m.bytes)) j (λ m' z. cc) (length-to_bytes (store_bits t / 8) n) refl h e
 
-  same_address : (x a b : ℕ) → slice_get l x ≡ Some (values.I32 a) → slice_get l x ≡ Some (values.I32 b) → a ≡ b
-  same_address x a b e f = let z : Some (values.I32 a) ≡ Some (values.I32 b) = sym e ∙ f in cc
+  -- from the value that stands there
+  stood_reach : (r : Option Memory) (k : Base) (p a n : ℕ) → Stands l k p (values.I32 a) → Extends l r k (p + n) → Reaches r (address a n)
+  stood_reach r Zero p a n h e =
+      let same : values.I32 h.0 ≡ values.I32 a = sym h.1 in
+      let one : h.0 ≡ a = cc in
+      let z : modulo I32 a ≡ p = subst (λ x. modulo I32 x ≡ p) one h.2 in
+      subst (λ q. Reaches r (q + n)) (sym z) e
+  stood_reach r (Local x) p a n h e =
+      let same : Some (values.I32 e.0) ≡ Some (values.I32 a) = sym e.1 ∙ h.0 in
+      let one : e.0 ≡ a = cc in
+      let z : p + n ≡ n = omega (arith, h.1) in
+      subst (λ q. Reaches r (address q n)) one (subst (λ q. Reaches r (address e.0 q)) z e.2)
 
-  load_safe : (t : Loading) (o : ℕ) (q : Option ℕ) (v : Value) (ops : List Value) (align j : ℕ) (fs : List Fact) → IsCopy l q (v ∷ ops) → FactsHold l g.memory fs → is_answered (reach q (o + load_bits t / 8)) fs ≡ true → effect (Load t align o) g l (v ∷ []) ≡ fails j → ⊥
+  load_safe : (t : Loading) (o : ℕ) (q : Option Copy) (v : Value) (ops : List Value) (align j : ℕ) (fs : List Fact) → IsCopy l q (v ∷ ops) → FactsHold l g.memory fs → is_answered (reach q (o + load_bits t / 8)) fs ≡ true → effect (Load t align o) g l (v ∷ []) ≡ fails j → ⊥
   load_safe t o None v ops align j fs h hs a e = cc
-  load_safe t o (Some x) (values.I64 n) ops align j fs h hs a e = cc
-  load_safe t o (Some x) (values.I32 n) ops align j fs h hs a e =
-      let f = answer_holds (record { local = x; end = o + load_bits t / 8 }) fs a hs in
-      loads_fit t n o g.memory j (subst (λ z. Reaches g.memory (address z (o + load_bits t / 8))) (same_address x f.0 n f.1 h) f.2) e
+  load_safe t o (Some k) (values.I64 n) ops align j fs h hs a e = cc
+  load_safe t o (Some k) (values.I32 n) ops align j fs h hs a e =
+      let f = answer_holds (record { base = k.base; end = k.plus + (o + load_bits t / 8) }) fs a hs in
+      loads_fit t n o g.memory j (stood_reach g.memory k.base k.plus n (o + load_bits t / 8) h f) e
 
-  store_safe : (t : Storing) (o : ℕ) (q : Option ℕ) (v w : Value) (ops : List Value) (align j : ℕ) (fs : List Fact) → IsCopy l q (w ∷ ops) → FactsHold l g.memory fs → is_answered (reach q (o + store_bits t / 8)) fs ≡ true → effect (Store t align o) g l (v ∷ w ∷ []) ≡ fails j → ⊥
+  store_safe : (t : Storing) (o : ℕ) (q : Option Copy) (v w : Value) (ops : List Value) (align j : ℕ) (fs : List Fact) → IsCopy l q (w ∷ ops) → FactsHold l g.memory fs → is_answered (reach q (o + store_bits t / 8)) fs ≡ true → effect (Store t align o) g l (v ∷ w ∷ []) ≡ fails j → ⊥
   store_safe t o None v w ops align j fs h hs a e = cc
-  store_safe t o (Some x) v w ops align j fs h hs a e = by_number (number (store_type t) v) w h e
+  store_safe t o (Some k) v w ops align j fs h hs a e = by_number (number (store_type t) v) w h e
     where
-      by_number : (r : Option ℕ) (w : Value) → IsCopy l (Some x) (w ∷ ops) → with_some r (λ n. with_some (number I32 w) (λ a. Stores t n a o g.memory)) ≡ fails j → ⊥
+      by_number : (r : Option ℕ) (w : Value) → IsCopy l (Some k) (w ∷ ops) → with_some r (λ n. with_some (number I32 w) (λ a. Stores t n a o g.memory)) ≡ fails j → ⊥
       by_number None w h e = cc
       by_number (Some n) (values.I64 b) h e = cc
       by_number (Some n) (values.I32 b) h e =
-          let f = answer_holds (record { local = x; end = o + store_bits t / 8 }) fs a hs in
-          stores_fit t n b o g.memory j (subst (λ z. Reaches g.memory (address z (o + store_bits t / 8))) (same_address x f.0 b f.1 h) f.2) e
+          let f = answer_holds (record { base = k.base; end = k.plus + (o + store_bits t / 8) }) fs a hs in
+          stores_fit t n b o g.memory j (stood_reach g.memory k.base k.plus b (o + store_bits t / 8) h f) e
 
   by_risk : (i : Basic) (c : Copies) (ops vs below : List Value) (fs : List Fact) (j : ℕ) → Risky i → CopiesHold l c ops → FactsHold l g.memory fs → is_answered (shown i c) fs ≡ true → cut (takes i) ops ≡ parts vs below → effect i g l vs ≡ fails j → ⊥
   by_risk i c ops vs below fs j (risky_binary t op by) h hs a u e = cc
@@ -454,42 +518,93 @@ module _ (g : World) (l : List Value) where
       let n = noted_holds l g.memory (shown i c) fs hs (shown_holds i c ops vs below g' l' ws h u e) in
       written_holds (local_written i) l l' g'.memory (noted (shown i c) fs) d.0 (facts_longer l g.memory g'.memory (noted (shown i c) fs) d.1 n)
 
-  get_copies : (x : ℕ) (q : Option Value) (c : Copies) (ops vs below : List Value) (g' : World) (l' ws : List Value) → slice_get l x ≡ q → CopiesHold l c ops → vs ≡ [] → below ≡ ops → with_some q (λ v. gives g l (v ∷ [])) ≡ gives g' l' ws → CopiesHold l' (copies_behind (LocalGet x) c) (ws ++ below)
-  get_copies x None c ops vs below g' l' ws at h n b e = absurd (cc)
-  get_copies x (Some v) c ops vs below g' l' ws at h n b e =
+  load_gives : (t : Loading) (align o : ℕ) (vs : List Value) → OneGiven l (effect (Load t align o) g l vs)
+  load_gives t align o vs =
+      let found : ℕ → Effect = λ n. gives g l (value (load_type t) (loaded t n) ∷ []) in
+      let go : ℕ → Memory → Effect = λ a m. in_bounds (memories.load m (address a o) (load_bits t / 8)) found in
+      given_one l I32 (λ a. with_some g.memory (go a)) vs
+      (λ a. given_some l g.memory (go a) (λ m. given_bounded l (memories.load m (address a o) (load_bits t / 8)) found (λ n. (refl, value (load_type t) (loaded t n), refl))))
+
+  -- under one more operand
+  under_holds : (l : List Value) (top : Option Copy) (v : Value) (c : Copies) (below : List Value) → IsCopy l top (v ∷ below) → CopiesHold l c below → CopiesHold l (under_one top c) (v ∷ below)
+  under_holds l top v c below t h = (t, h.0, h.1)
+
+  get_copies : (x : ℕ) (q : Option Value) (c : Copies) (ops vs below : List Value) (g' : World) (l' ws : List Value) → slice_get l x ≡ q → CopiesHold l c ops → below ≡ ops → with_some q (λ v. gives g l (v ∷ [])) ≡ gives g' l' ws → CopiesHold l' (copies_behind (LocalGet x) c) (ws ++ below)
+  get_copies x None c ops vs below g' l' ws at h b e = absurd (cc)
+  get_copies x (Some v) c ops vs below g' l' ws at h b e =
       let z : ws ≡ v ∷ [] = cc in
       let k : l ≡ l' = cc in
-      subst (λ l'. CopiesHold l' (copies_behind (LocalGet x) c) (ws ++ below)) k (subst (λ ws. CopiesHold l (copies_behind (LocalGet x) c) (ws ++ below)) (sym z) (at, subst (IsCopy l c.first) (sym b) h.0))
+      subst (λ l'. CopiesHold l' (copies_behind (LocalGet x) c) (ws ++ below)) k (subst (λ ws. CopiesHold l (copies_behind (LocalGet x) c) (ws ++ below)) (sym z) (under_holds l (Some (copy_of x)) v c below (at, refl) (subst (CopiesHold l c) (sym b) h)))
+
+  number_copy : (v : Value) (below : List Value) → IsCopy l (number_of v) (v ∷ below)
+  number_copy (values.I32 n) below = (n, refl, refl)
+  number_copy (values.I64 n) below = tt
+
+  -- a local is written
+  tee_copies : (x : ℕ) (q : Option Value) (v : Value) (c : Copies) (g' : World) (l' ws below : List Value) → CopiesHold l c below → slice_get l x ≡ q → over q v (gives g (slice_set l x v) (v ∷ [])) ≡ gives g' l' ws → CopiesHold l' (under_one (Some (copy_of x)) (other_copies (is_local (Some x)) c)) (ws ++ below)
+  tee_copies x None v c g' l' ws below h at e = absurd (cc)
+  tee_copies x (Some old) v c g' l' ws below h at e = by_type (same_type (type_of old) (type_of v)) e
+    where
+      by_type : (b : Bool) → when b (gives g (slice_set l x v) (v ∷ [])) ≡ gives g' l' ws → CopiesHold l' (under_one (Some (copy_of x)) (other_copies (is_local (Some x)) c)) (ws ++ below)
+      by_type false e = absurd (cc)
+      by_type true e =
+          let z : ws ≡ v ∷ [] = cc in
+          let k : slice_set l x v ≡ l' = cc in
+          let c' = other_copies (is_local (Some x)) c in
+          let written = others_copied l x v c below h in
+          subst (λ m. CopiesHold m (under_one (Some (copy_of x)) c') (ws ++ below)) k
+          (subst (λ us. CopiesHold (slice_set l x v) (under_one (Some (copy_of x)) c') (us ++ below)) (sym z)
+          (under_holds (slice_set l x v) (Some (copy_of x)) v c' below (slice_get-put_same l x (type_of old) v (types_get l x old at), refl) written))
+
+  -- one value takes the place of one, or of two
+  one_copies : (x : Effect) (c : Copies) (v : Value) (ops below : List Value) (g' : World) (l' ws : List Value) → OneGiven l x → x ≡ gives g' l' ws → CopiesHold l c (v ∷ ops) → below ≡ ops → CopiesHold l' (under_one None (without_top c)) (ws ++ below)
+  one_copies x c v ops below g' l' ws o e h b =
+      let z = subst (OneGiven l) e o in
+      let under = subst (CopiesHold l (without_top c)) (sym b) (top_leaves l c v ops h) in
+      subst (λ m. CopiesHold m (under_one None (without_top c)) (ws ++ below)) (sym z.0) (subst (λ us. CopiesHold l (under_one None (without_top c)) (us ++ below)) (sym z.2) (under_holds l None z.1 (without_top c) below tt under))
+
+  of_one : (i : Basic) (c : Copies) (ops vs below : List Value) (g' : World) (l' ws : List Value) → ((vs : List Value) → OneGiven l (effect i g l vs)) → CopiesHold l c ops → cut 1 ops ≡ parts vs below → effect i g l vs ≡ gives g' l' ws → CopiesHold l' (under_one None (without_top c)) (ws ++ below)
+  of_one i c [] vs below g' l' ws o h u e = absurd (cc)
+  of_one i c (v ∷ ops) vs below g' l' ws o h u e = let b : below ≡ ops = cc in one_copies (effect i g l vs) c v ops below g' l' ws (o vs) e h b
+
+  of_two : (i : Basic) (c : Copies) (ops vs below : List Value) (g' : World) (l' ws : List Value) → ((vs : List Value) → OneGiven l (effect i g l vs)) → CopiesHold l c ops → cut 2 ops ≡ parts vs below → effect i g l vs ≡ gives g' l' ws → CopiesHold l' (under_one None (without_top (without_top c))) (ws ++ below)
+  of_two i c [] vs below g' l' ws o h u e = absurd (cc)
+  of_two i c (v ∷ []) vs below g' l' ws o h u e = absurd (cc)
+  of_two i c (v ∷ w ∷ ops) vs below g' l' ws o h u e = let b : below ≡ ops = cc in one_copies (effect i g l vs) (without_top c) w ops below g' l' ws (o vs) e (top_leaves l c v (w ∷ ops) h) b
 
   pub copies_go_on : (i : Basic) (c : Copies) (ops vs below : List Value) (g' : World) (l' ws : List Value) → CopiesHold l c ops → cut (takes i) ops ≡ parts vs below → effect i g l vs ≡ gives g' l' ws → CopiesHold l' (copies_behind i c) (ws ++ below)
-  copies_go_on (LocalGet x) c ops [] below g' l' ws h u e = get_copies x (slice_get l x) c ops [] below g' l' ws refl h refl (cc) e
+  copies_go_on (LocalGet x) c ops [] below g' l' ws h u e = get_copies x (slice_get l x) c ops [] below g' l' ws refl h (cc) e
   copies_go_on (LocalGet x) c ops (v ∷ vs) below g' l' ws h u e = absurd (cc)
   copies_go_on (Const v) c ops [] below g' l' ws h u e =
       let z : ws ≡ v ∷ [] = cc in
       let k : l ≡ l' = cc in
       let b : below ≡ ops = cc in
-      subst (λ l'. CopiesHold l' (copies_behind (Const v) c) (ws ++ below)) k (subst (λ ws. CopiesHold l (copies_behind (Const v) c) (ws ++ below)) (sym z) (tt, subst (IsCopy l c.first) (sym b) h.0))
+      subst (λ l'. CopiesHold l' (copies_behind (Const v) c) (ws ++ below)) k (subst (λ ws. CopiesHold l (copies_behind (Const v) c) (ws ++ below)) (sym z) (under_holds l (number_of v) v c below (number_copy v below) (subst (CopiesHold l c) (sym b) h)))
   copies_go_on (Const v) c ops (w ∷ vs) below g' l' ws h u e = absurd (cc)
-  copies_go_on Nop c ops vs below g' l' ws h u e = (tt, tt)
-  copies_go_on Drop c ops vs below g' l' ws h u e = (tt, tt)
-  copies_go_on Select c ops vs below g' l' ws h u e = (tt, tt)
-  copies_go_on (LocalSet x) c ops vs below g' l' ws h u e = (tt, tt)
-  copies_go_on (LocalTee x) c ops vs below g' l' ws h u e = (tt, tt)
-  copies_go_on (GlobalGet x) c ops vs below g' l' ws h u e = (tt, tt)
-  copies_go_on (GlobalSet x) c ops vs below g' l' ws h u e = (tt, tt)
-  copies_go_on (Load t align o) c ops vs below g' l' ws h u e = (tt, tt)
-  copies_go_on (Store t align o) c ops vs below g' l' ws h u e = (tt, tt)
-  copies_go_on MemorySize c ops vs below g' l' ws h u e = (tt, tt)
-  copies_go_on MemoryGrow c ops vs below g' l' ws h u e = (tt, tt)
-  copies_go_on MemoryCopy c ops vs below g' l' ws h u e = (tt, tt)
-  copies_go_on MemoryFill c ops vs below g' l' ws h u e = (tt, tt)
-  copies_go_on (Eqz t) c ops vs below g' l' ws h u e = (tt, tt)
-  copies_go_on (Unary t op) c ops vs below g' l' ws h u e = (tt, tt)
-  copies_go_on (Compare t op) c ops vs below g' l' ws h u e = (tt, tt)
-  copies_go_on (Binary t op) c ops vs below g' l' ws h u e = (tt, tt)
-  copies_go_on (Convert k) c ops vs below g' l' ws h u e = (tt, tt)
-  copies_go_on (Extend32 k) c ops vs below g' l' ws h u e = (tt, tt)
-  copies_go_on (Extend64 k) c ops vs below g' l' ws h u e = (tt, tt)
+  copies_go_on Nop c ops vs below g' l' ws h u e = (tt, tt, tt)
+  copies_go_on Drop c ops vs below g' l' ws h u e = (tt, tt, tt)
+  copies_go_on Select c ops vs below g' l' ws h u e = (tt, tt, tt)
+  copies_go_on (LocalSet x) c ops vs below g' l' ws h u e = (tt, tt, tt)
+  copies_go_on (LocalTee x) c [] vs below g' l' ws h u e = absurd (cc)
+  copies_go_on (LocalTee x) c (v ∷ ops) vs below g' l' ws h u e =
+      let z : vs ≡ v ∷ [] = cc in
+      let b : below ≡ ops = cc in
+      tee_copies x (slice_get l x) v (without_top c) g' l' ws below (subst (CopiesHold l (without_top c)) (sym b) (top_leaves l c v ops h)) refl (subst (λ z. effect (LocalTee x) g l z ≡ gives g' l' ws) z e)
+  copies_go_on (GlobalGet x) c ops vs below g' l' ws h u e = (tt, tt, tt)
+  copies_go_on (GlobalSet x) c ops vs below g' l' ws h u e = (tt, tt, tt)
+  copies_go_on (Load t align o) c ops vs below g' l' ws h u e = of_one (Load t align o) c ops vs below g' l' ws (load_gives t align o) h u e
+  copies_go_on (Store t align o) c ops vs below g' l' ws h u e = (tt, tt, tt)
+  copies_go_on MemorySize c ops vs below g' l' ws h u e = (tt, tt, tt)
+  copies_go_on MemoryGrow c ops vs below g' l' ws h u e = (tt, tt, tt)
+  copies_go_on MemoryCopy c ops vs below g' l' ws h u e = (tt, tt, tt)
+  copies_go_on MemoryFill c ops vs below g' l' ws h u e = (tt, tt, tt)
+  copies_go_on (Eqz t) c ops vs below g' l' ws h u e = of_one (Eqz t) c ops vs below g' l' ws (λ vs. given_one l t (λ a. gives g l (values.I32 (bool_number (a == 0)) ∷ [])) vs (λ a. (refl, values.I32 (bool_number (a == 0)), refl))) h u e
+  copies_go_on (Unary t op) c ops vs below g' l' ws h u e = of_one (Unary t op) c ops vs below g' l' ws (λ vs. given_one l t (λ a. gives g l (value t (unary t op a) ∷ [])) vs (λ a. (refl, value t (unary t op a), refl))) h u e
+  copies_go_on (Compare t op) c ops vs below g' l' ws h u e = of_two (Compare t op) c ops vs below g' l' ws (λ vs. given_two l t t (λ b a. gives g l (values.I32 (bool_number (compare t op a b)) ∷ [])) vs (λ b a. (refl, values.I32 (bool_number (compare t op a b)), refl))) h u e
+  copies_go_on (Binary t op) c ops vs below g' l' ws h u e = of_two (Binary t op) c ops vs below g' l' ws (λ vs. given_two l t t (λ b a. divides (binary t op a b) (λ n. gives g l (value t n ∷ []))) vs (λ b a. given_divided l (binary t op a b) (λ n. gives g l (value t n ∷ [])) (λ n. (refl, value t n, refl)))) h u e
+  copies_go_on (Convert k) c ops vs below g' l' ws h u e = of_one (Convert k) c ops vs below g' l' ws (λ vs. given_one l (convert_from k) (λ a. gives g l (value (convert_to k) (convert k a) ∷ [])) vs (λ a. (refl, value (convert_to k) (convert k a), refl))) h u e
+  copies_go_on (Extend32 k) c ops vs below g' l' ws h u e = of_one (Extend32 k) c ops vs below g' l' ws (λ vs. given_one l I32 (λ a. gives g l (values.I32 (extend32 k a) ∷ [])) vs (λ a. (refl, values.I32 (extend32 k a), refl))) h u e
+  copies_go_on (Extend64 k) c ops vs below g' l' ws h u e = of_one (Extend64 k) c ops vs below g' l' ws (λ vs. given_one l I64 (λ a. gives g l (values.I64 (extend64 k a) ∷ [])) vs (λ a. (refl, values.I64 (extend64 k a), refl))) h u e
 
 -- ---- an instruction without a guard, where this is known
 

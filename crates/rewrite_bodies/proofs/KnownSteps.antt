@@ -7,33 +7,22 @@ use Rattle.wasm_syntax.specs.declared.value.Value.TheVariants as values
 use Rattle.wasm_syntax.specs.declared.instruction.Basic.{Basic}
 use Rattle.wasm_syntax.specs.declared.host.HostCall.{HostCall}
 use Rattle.wasm_syntax.specs.declared.host.Reply.{Reply}
-use Rattle.wasm_syntax.specs.declared.host.Write.{Write}
 use Rattle.wasm_syntax.specs.declared.host.CollectorCall.{CollectorCall}
 use Rattle.wasm_syntax.specs.declared.parts.FuncType.{FuncType}
 use Rattle.wasm_syntax.specs.declared.parts.Body.{Body}
 use Rattle.wasm_syntax.specs.declared.module.ModuleParts.{ModuleParts as Module}
 use Rattle.wasm_syntax.specs.Numbers.{types}
 use Rattle.wasm_syntax.specs.Tree.{Tree, Nodes, stop, basic, jump, block, loop, choose, Jump, Unreachable, Br, BrIf, BrTable, Return, Call, CallIndirect}
-use Rattle.wasm_syntax.specs.Module.{Program, Function, imported, defined, function_at, type_at, same_types, same_functype, option_then}
+use Rattle.wasm_syntax.specs.Module.{Program, Function, imported, defined, function_at, type_at, same_types, same_functype}
 use Rattle.wasm_syntax.specs.Host.{World, Answer, replied, told, silent, misfit, answer, told_or, served_by, if_fits, if_written, after_writes, fits_type, collector_of}
 use Rattle.wasm_syntax.specs.Effect.{Effect, gives, fails, unfit, effect, takes}
 use Rattle.wasm_syntax.specs.Machine.{Kind, leaves, again, returns, Label, Frame, Config, label, config, Engine, Stepped, next, ends, traps, no_reply, bad_reply, stuck, Cut, short, parts, cut, top, exactly, Went, inside, outside, nowhere, arrive, arrive_some, out_some, leave, loops, land, branch, carry, same_carry, pick, function_type, entered, host_call, goes_to, deliver, moved, host, enters, applied, applied_if, calls_on, calls, calls_if, calls_entry, calls_typed, calls_indirect, branch_if, moved_if, branch_table, jumps, affects, does, chooses, runs, in_frame, steps, step}
 use Rattle.linear_memory.specs.Memory.{Memory}
-use Rattle.linear_memory.specs.Memory as memories
 use Rattle.rewrite_bodies.specs.calls.Slots.{local_written}
-use Rattle.rewrite_bodies.specs.calls.Facts.{is_local, written, frail, Fact, others, Copies, no_copies, copies_behind, facts_behind, exposed_in}
-use Rattle.rewrite_bodies.specs.calls.Known.{FactsHold, Within, Sound, Inside, KnownKind, KnownOuter, KnownAt, KnownLabels, KnownWaiting, nodes_in, nodes_of, KnownFrame, KnownCallers, KnownFrames, KnownConfig}
-use Rattle.rewrite_bodies.proofs.FactLaws.{or_left, or_right, or_cases, same_number, sound_all, Longer, longer_refl, longer_trans, put_longer, facts_longer, outer_longer, others_hold, others_steady, steady_same, Wrote, outer_written, does_to, facts_go_on, copies_go_on}
-
--- a host leaves a memory at least as long
-writes_longer : (a : Option Memory) (ws : List Write) (b : Option Memory) → after_writes a ws ≡ Some b → Longer a b
-writes_longer a [] b e = let z : a ≡ b = cc in subst (Longer a) z (longer_refl a)
-writes_longer None (w ∷ ws) b e = absurd (cc)
-writes_longer (Some m) (w ∷ ws) b e = by_put (memories.put m w.at w.bytes) refl e (λ m'. writes_longer (Some m') ws b)
-  where
-    by_put : (o : Option Memory) → memories.put m w.at w.bytes ≡ o → option_then o (λ m'. after_writes (Some m') ws) ≡ Some b → ((m' : Memory) → after_writes (Some m') ws ≡ Some b → Longer (Some m') b) → Longer (Some m) b
-    by_put None p e ih = absurd (cc)
-    by_put (Some m') p e ih = longer_trans (Some m) (Some m') b (put_longer m m' w.at w.bytes p) (ih m' e)
+use Rattle.rewrite_bodies.specs.calls.Facts.{is_local, written, frail, Fact, others, first_facts, Copies, no_copies, copies_behind, facts_behind, exposed_in}
+use Rattle.rewrite_bodies.specs.calls.Known.{HasLeast, FactsHold, Within, Sound, Inside, KnownKind, KnownOuter, KnownAt, KnownLabels, KnownWaiting, nodes_in, nodes_of, KnownFrame, KnownCallers, KnownFrames, KnownConfig}
+use Rattle.rewrite_bodies.proofs.Longer.{Longer, longer_refl, writes_longer}
+use Rattle.rewrite_bodies.proofs.FactLaws.{or_left, or_right, or_cases, same_number, sound_all, first_hold, facts_longer, outer_longer, others_hold, others_steady, steady_same, Wrote, outer_written, does_to, facts_go_on, copies_go_on}
 
 abbrev Answers : World → Answer → Type 0
 Answers w (replied w' v) = Longer w.memory w'.memory
@@ -71,7 +60,7 @@ module _ (os : List ℕ) (these : ℕ → Bool) (l : List Value) (mem : Option M
   -- the innermost label was left
   comes_in : (vs : List Value) (L : Label) (Ls : List Label) (fss : List (List Fact)) → KnownOuter os these l mem (L ∷ Ls) fss → KnownAt os these l mem no_copies (vs ++ L.operands) L.nodes L.kind Ls
   comes_in vs L Ls [] h = absurd h
-  comes_in vs L Ls (fs ∷ fss) h = record { facts = fs; outer = fss; hold = h.1; copied = (tt, tt); sound = h.2; inside = h.3; kind_known = h.4; outside = h.5 }
+  comes_in vs L Ls (fs ∷ fss) h = record { facts = fs; outer = fss; hold = h.1; copied = (tt, tt, tt); sound = h.2; inside = h.3; kind_known = h.4; outside = h.5 }
 
   arrive_known : (vs : List Value) (Ls : List Label) (fss : List (List Fact)) → KnownOuter os these l mem Ls fss → AfterMove (arrive vs Ls)
   arrive_known vs [] fss h = tt
@@ -105,7 +94,7 @@ module _ (os : List ℕ) (these : ℕ → Bool) (l : List Value) (mem : Option M
           facts = fs;
           outer = fss;
           hold = h.1;
-          copied = (tt, tt);
+          copied = (tt, tt, tt);
           sound = (k.0, subst (λ z. Sound os these z no_copies inner) same k.1, subst (λ z. Sound os these z no_copies L.nodes) same h.2);
           inside = loop_inside Ls at t inner en L.nodes k.0 h.3;
           kind_known = h.4;
@@ -183,7 +172,7 @@ enters_known os these l mem facts outer ops inner rest en kd kd' Ls h w si sr ir
       facts = others these facts;
       outer = others these facts ∷ outer;
       hold = kept;
-      copied = (tt, tt);
+      copied = (tt, tt, tt);
       sound = si;
       inside = w;
       kind_known = kn;
@@ -199,12 +188,12 @@ waiting_longer os these l a b (L ∷ Ls) le k =
 
 callers_longer : (p : Program) (a b : Option Memory) (Fs : List Frame) → Longer a b → KnownCallers p a Fs → KnownCallers p b Fs
 callers_longer p a b [] le h = tt
-callers_longer p a b (F ∷ Fs) le h = (waiting_longer (exposed_in (nodes_in p F.function)) (frail (nodes_in p F.function)) F.locals a b F.labels le h.0, callers_longer p a b Fs le h.1)
+callers_longer p a b (F ∷ Fs) le h = (waiting_longer (exposed_in p.module_.memories (nodes_in p F.function)) (frail (nodes_in p F.function)) F.locals a b F.labels le h.0, callers_longer p a b Fs le h.1)
 
 -- behind a jump that goes on, with other operands
 goes_on : (os : List ℕ) (these : ℕ → Bool) (l : List Value) (a b : Option Memory) (c : Copies) (ops vs : List Value) (o : ℕ) (j : Jump) (rest : Nodes) (kd : Kind) (Ls : List Label) → Longer a b → KnownAt os these l a c ops (jump o j rest) kd Ls → KnownAt os these l b no_copies vs rest kd Ls
 goes_on os these l a b c ops vs o j rest kd Ls le k =
-    record { facts = k.facts; outer = k.outer; hold = facts_longer l a b k.facts le k.hold; copied = (tt, tt); sound = k.sound; inside = inside_jump these Ls o j rest k.inside; kind_known = k.kind_known; outside = outer_longer os these l a b Ls k.outer le k.outside }
+    record { facts = k.facts; outer = k.outer; hold = facts_longer l a b k.facts le k.hold; copied = (tt, tt, tt); sound = k.sound; inside = inside_jump these Ls o j rest k.inside; kind_known = k.kind_known; outside = outer_longer os these l a b Ls k.outer le k.outside }
 
 -- ---- a step
 
@@ -218,7 +207,7 @@ module _ (M : Engine) where
   KnownStepped stuck = Unit {0}
 
   abbrev os_of : Frame → List ℕ
-  os_of F = exposed_in (nodes_in M.program F.function)
+  os_of F = exposed_in M.program.module_.memories (nodes_in M.program F.function)
 
   abbrev these_of : Frame → ℕ → Bool
   these_of F = frail (nodes_in M.program F.function)
@@ -232,7 +221,7 @@ module _ (M : Engine) where
     where
       by_labels : (Ls : List Label) → KnownWaiting (os_of F) (these_of F) F.locals w.memory Ls → KnownStepped (goes_to M (arrive vs Ls) F Fs w co)
       by_labels [] k = tt
-      by_labels (L ∷ Ls) k = ((no_copies, record { facts = k.facts; outer = k.outer; hold = k.hold; copied = (tt, tt); sound = k.sound; inside = k.inside; kind_known = k.kind_known; outside = k.outside }), h.1)
+      by_labels (L ∷ Ls) k = ((no_copies, record { facts = k.facts; outer = k.outer; hold = k.hold; copied = (tt, tt, tt); sound = k.sound; inside = k.inside; kind_known = k.kind_known; outside = k.outside }), h.1)
 
   moved_known : (x : Went) (F : Frame) (Fs : List Frame) (w : World) (co : List CollectorCall) → AfterMove (os_of F) (these_of F) F.locals w.memory x → KnownCallers M.program w.memory Fs → KnownStepped (moved M x F Fs w co)
   moved_known (inside Ls) F Fs w co h hs = (h, hs)
@@ -244,14 +233,15 @@ module _ (M : Engine) where
   moved_if_known true x F Fs w co h hs = moved_known x F Fs w co h hs
 
   -- the frame of a function that begins
-  begins : (g : ℕ) (b : Body) (tree : Tree) (type : FuncType) (args : List Value) (mem : Option Memory) → function_at M.program g ≡ Some (defined b tree type) → KnownFrame M.program mem (entered g b tree type args)
-  begins g b tree type args mem e =
+  begins : (g : ℕ) (b : Body) (tree : Tree) (type : FuncType) (args : List Value) (mem : Option Memory) → function_at M.program g ≡ Some (defined b tree type) → HasLeast M.program.module_.memories mem → KnownFrame M.program mem (entered g b tree type args)
+  begins g b tree type args mem e h =
       let same : nodes_in M.program g ≡ tree.nodes = ap nodes_of e in
       let l = (entered g b tree type args).locals in
-      subst (λ z. KnownLabels (exposed_in z) (frail z) l mem (entered g b tree type args).labels) (sym same)
-      (no_copies, record { facts = []; outer = []; hold = tt; copied = (tt, tt); sound = sound_all tree.nodes; inside = tt; kind_known = tt; outside = tt })
+      let ls = M.program.module_.memories in
+      subst (λ z. KnownLabels (exposed_in ls z) (frail z) l mem (entered g b tree type args).labels) (sym same)
+      (no_copies, record { facts = first_facts ls; outer = []; hold = first_hold l mem ls h; copied = (tt, tt, tt); sound = sound_all ls tree.nodes; inside = tt; kind_known = tt; outside = tt })
 
-  module _ (F : Frame) (L : Label) (Ls : List Label) (Fs : List Frame) (w : World) (co : List CollectorCall) (hs : KnownCallers M.program w.memory Fs) where
+  module _ (F : Frame) (L : Label) (Ls : List Label) (Fs : List Frame) (w : World) (co : List CollectorCall) (hs : KnownCallers M.program w.memory Fs) (hl : HasLeast M.program.module_.memories w.memory) where
     host_known : (r : Answer) (call : HostCall) (below : List Value) (c : Copies) (ops : List Value) (o : ℕ) (j : Jump) (rest : Nodes) → Answers w r → At F w c ops (jump o j rest) L.kind Ls → KnownStepped (host M r call below rest F L Ls Fs w co)
     host_known (replied w' v) call below c ops o j rest a k =
         ((no_copies, goes_on (os_of F) (these_of F) F.locals w.memory w'.memory c ops (option_to_list v ++ below) o j rest L.kind Ls a k), callers_longer M.program w.memory w'.memory Fs a hs)
@@ -262,7 +252,7 @@ module _ (M : Engine) where
     enter_known : (q : Bool) (g : ℕ) (b : Body) (tree : Tree) (type : FuncType) (args below : List Value) (at : ℕ) (c : Copies) (ops : List Value) (o : ℕ) (j : Jump) (rest : Nodes) → function_at M.program g ≡ Some (defined b tree type) → At F w c ops (jump o j rest) L.kind Ls → KnownStepped (enters M q (entered g b tree type args) below at rest F L Ls Fs w co)
     enter_known false g b tree type args below at c ops o j rest e k = tt
     enter_known true g b tree type args below at c ops o j rest e k =
-        (begins g b tree type args w.memory e, (goes_on (os_of F) (these_of F) F.locals w.memory w.memory c ops below o j rest L.kind Ls (longer_refl w.memory) k, hs))
+        (begins g b tree type args w.memory e hl, (goes_on (os_of F) (these_of F) F.locals w.memory w.memory c ops below o j rest L.kind Ls (longer_refl w.memory) k, hs))
 
     module _ (at : ℕ) (c : Copies) (ops : List Value) (o : ℕ) (j : Jump) (rest : Nodes) (k : At F w c ops (jump o j rest) L.kind Ls) where
       applied_known : (f : Function) (g : ℕ) (args below : List Value) → function_at M.program g ≡ Some f → KnownStepped (applied M f g args below at rest F L Ls Fs w co)
@@ -352,17 +342,17 @@ module _ (M : Engine) where
         ((no_copies, enters_known (os_of F) (these_of F) F.locals w.memory k.facts k.outer L.operands inner rest L.end L.kind (again o t inner en) Ls k.hold k.sound.0 k.sound.1 k.sound.2 (inside_loop (these_of F) Ls o t inner en rest k.inside) k.kind_known k.outside (k.sound.0, k.sound.1)), hs)
     runs_known c (choose o t a ea b en rest) k = chooses_known c o t a ea b en rest L.operands k
 
-  labels_known : (F : Frame) (Ls : List Label) (Fs : List Frame) (w : World) (co : List CollectorCall) → KnownLabels (os_of F) (these_of F) F.locals w.memory Ls → KnownCallers M.program w.memory Fs → KnownStepped (in_frame M Ls F Fs w co)
-  labels_known F [] Fs w co h hs = tt
-  labels_known F (L ∷ Ls) Fs w co h hs = runs_known F L Ls Fs w co hs h.0 L.nodes h.1
+  labels_known : (F : Frame) (Ls : List Label) (Fs : List Frame) (w : World) (co : List CollectorCall) → KnownLabels (os_of F) (these_of F) F.locals w.memory Ls → KnownCallers M.program w.memory Fs → HasLeast M.program.module_.memories w.memory → KnownStepped (in_frame M Ls F Fs w co)
+  labels_known F [] Fs w co h hs hl = tt
+  labels_known F (L ∷ Ls) Fs w co h hs hl = runs_known F L Ls Fs w co hs hl h.0 L.nodes h.1
 
-  frames_known : (Fs : List Frame) (w : World) (co : List CollectorCall) → KnownFrames M.program w.memory Fs → KnownStepped (steps M Fs w co)
-  frames_known [] w co h = tt
-  frames_known (F ∷ Fs) w co h = labels_known F F.labels Fs w co h.0 h.1
+  frames_known : (Fs : List Frame) (w : World) (co : List CollectorCall) → HasLeast M.program.module_.memories w.memory → KnownFrames M.program w.memory Fs → KnownStepped (steps M Fs w co)
+  frames_known [] w co hl h = tt
+  frames_known (F ∷ Fs) w co hl h = labels_known F F.labels Fs w co h.0 h.1 hl
 
-  pub step_known : (c : Config) → KnownConfig M.program c → KnownStepped (step M c)
-  step_known c h = frames_known c.frames c.world c.collected h
+  pub step_known : (c : Config) → HasLeast M.program.module_.memories c.world.memory → KnownConfig M.program c → KnownStepped (step M c)
+  step_known c hl h = frames_known c.frames c.world c.collected hl h
 
 -- an invocation begins
-pub begins_known : (M : Engine) (g : ℕ) (b : Body) (tree : Tree) (type : FuncType) (args : List Value) (w : World) (co : List CollectorCall) → function_at M.program g ≡ Some (defined b tree type) → KnownConfig M.program (config (entered g b tree type args ∷ []) w co)
-begins_known M g b tree type args w co e = (begins M g b tree type args w.memory e, tt)
+pub begins_known : (M : Engine) (g : ℕ) (b : Body) (tree : Tree) (type : FuncType) (args : List Value) (w : World) (co : List CollectorCall) → function_at M.program g ≡ Some (defined b tree type) → HasLeast M.program.module_.memories w.memory → KnownConfig M.program (config (entered g b tree type args ∷ []) w co)
+begins_known M g b tree type args w co e hl = (begins M g b tree type args w.memory e hl, tt)

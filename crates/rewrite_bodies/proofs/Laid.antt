@@ -13,7 +13,7 @@ use Rattle.wasm_syntax.specs.Effect.{takes}
 use Rattle.wasm_syntax.specs.Machine.{Frame, leaves, returns, label, frame, config, Engine, result_of}
 use Rattle.rewrite_bodies.specs.Numbering.{import_count}
 use Rattle.rewrite_bodies.specs.calls.Slots.{Place, Landing, Ctx, less, pushed, grown, under, result_type, freed, after_plain}
-use Rattle.rewrite_bodies.specs.calls.Landings.{number_of, landing_behind, most_landings, at_end, unless_there, with_some, landing_call, landings_call, landings_jump, landings_from, landed, landing_at}
+use Rattle.rewrite_bodies.specs.calls.Landings.{number_of, landing_behind, most_landings, at_end, unless_there, with_some, landing_call, landings_call, landings_jump, landings_from, landed, landing_at, part_of}
 use Rattle.rewrite_bodies.specs.calls.Rewrite.{rewrite, landing_code, nested, exit_code, laid}
 use Rattle.rewrite_bodies.specs.calls.Agreement.{l_labels, FitsIn, Room_call, Room_jump, Room}
 use Rattle.rewrite_bodies.specs.calls.Steps.{To}
@@ -35,27 +35,27 @@ few_some : (o : Option Landing) (xs : List Landing) → length xs ≤ most_landi
 few_some None xs le = le
 few_some (Some x) xs le = few_unless (number_of x xs) x xs le
 
-few_call : (b : Bool) (es : List Place) (xs : List Landing) → length xs ≤ most_landings → length (landing_call b es xs) ≤ most_landings
-few_call true es xs le = le
-few_call false es xs le = few_unless (number_of (landing_behind es) xs) (landing_behind es) xs le
+few_call : (p : ℕ) (b : Bool) (es : List Place) (xs : List Landing) → length xs ≤ most_landings → length (landing_call p b es xs) ≤ most_landings
+few_call p true es xs le = le
+few_call p false es xs le = few_unless (number_of (landing_behind p es) xs) (landing_behind p es) xs le
 
-few_called : (b : Bool) (o : Option FuncType) (es : List Place) (xs : List Landing) (go : List Place → List Landing → List Landing) → ((es' : List Place) (xs' : List Landing) → length xs' ≤ most_landings → length (go es' xs') ≤ most_landings) → length xs ≤ most_landings → length (landings_call b o es xs go) ≤ most_landings
-few_called b None es xs go h le = le
-few_called b (Some type) es xs go h le = h (grown (result_of type) (less (length type.params) es)) (landing_call b (less (length type.params) es) xs) (few_call b (less (length type.params) es) xs le)
+few_called : (p : ℕ) (b : Bool) (o : Option FuncType) (es : List Place) (xs : List Landing) (go : List Place → List Landing → List Landing) → ((es' : List Place) (xs' : List Landing) → length xs' ≤ most_landings → length (go es' xs') ≤ most_landings) → length xs ≤ most_landings → length (landings_call p b o es xs go) ≤ most_landings
+few_called p b None es xs go h le = le
+few_called p b (Some type) es xs go h le = h (grown (result_of type) (less (length type.params) es)) (landing_call p b (less (length type.params) es) xs) (few_call p b (less (length type.params) es) xs le)
 
-few_jump : (C : Ctx) (j : Jump) (es : List Place) (xs : List Landing) (go : List Place → List Landing → List Landing) → ((es' : List Place) (xs' : List Landing) → length xs' ≤ most_landings → length (go es' xs') ≤ most_landings) → length xs ≤ most_landings → length (landings_jump C j es xs go) ≤ most_landings
-few_jump C Unreachable es xs go h le = le
-few_jump C (Br l) es xs go h le = le
-few_jump C (BrIf l) es xs go h le = h (less 1 es) xs le
-few_jump C (BrTable ts d) es xs go h le = le
-few_jump C Return es xs go h le = le
-few_jump C (Call f) es xs go h le = few_called (nat_lt f (import_count C.source)) (type_at C.source f) es xs go h le
-few_jump C (CallIndirect t) es xs go h le = few_called true (slice_get C.source.types t) (less 1 es) xs go h le
+few_jump : (C : Ctx) (p : ℕ) (j : Jump) (es : List Place) (xs : List Landing) (go : List Place → List Landing → List Landing) → ((es' : List Place) (xs' : List Landing) → length xs' ≤ most_landings → length (go es' xs') ≤ most_landings) → length xs ≤ most_landings → length (landings_jump C p j es xs go) ≤ most_landings
+few_jump C p Unreachable es xs go h le = le
+few_jump C p (Br l) es xs go h le = le
+few_jump C p (BrIf l) es xs go h le = h (less 1 es) xs le
+few_jump C p (BrTable ts d) es xs go h le = le
+few_jump C p Return es xs go h le = le
+few_jump C p (Call f) es xs go h le = few_called p (nat_lt f (import_count C.source)) (type_at C.source f) es xs go h le
+few_jump C p (CallIndirect t) es xs go h le = few_called p true (slice_get C.source.types t) (less 1 es) xs go h le
 
 pub few_landings : (C : Ctx) (es : List Place) (nodes : Nodes) (xs : List Landing) → length xs ≤ most_landings → length (landings_from C es nodes xs) ≤ most_landings
 few_landings C es stop xs le = le
 few_landings C es (basic o i rest) xs le = few_landings C (after_plain C es i) rest (with_some (landing_at C o i es) xs) (few_some (landing_at C o i es) xs le)
-few_landings C es (jump o j rest) xs le = few_jump C j es xs (λ es' xs'. landings_from C es' rest xs') (λ es' xs' le'. few_landings C es' rest xs' le') le
+few_landings C es (jump o j rest) xs le = few_jump C (part_of C.locals o) j es xs (λ es' xs'. landings_from C es' rest xs') (λ es' xs' le'. few_landings C es' rest xs' le') le
 few_landings C es (block o t inner end rest) xs le = few_landings C (grown t (under es)) rest (landings_from C (under es) inner xs) (few_landings C (under es) inner xs le)
 few_landings C es (loop o t inner end rest) xs le = few_landings C (grown t (under es)) rest (landings_from C (under es) inner xs) (few_landings C (under es) inner xs le)
 few_landings C es (choose o t a ea b end rest) xs le =

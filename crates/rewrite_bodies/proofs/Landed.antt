@@ -55,12 +55,13 @@ same_result_is (Some t) (Some u) e = ap Some (same_type_is t u e)
 
 pub same_landing_is : (a b : Landing) → same_landing a b ≡ true → a ≡ b
 same_landing_is a b s =
-    let p = and_parts (same_result a.carried b.carried) ((a.kind == b.kind) && same_places a.places b.places) s in
-    let q = and_parts (a.kind == b.kind) (same_places a.places b.places) p.1 in
-    alike a b (same_result_is a.carried b.carried p.0) (same_places_are a.places b.places q.1) (eqb-true a.kind b.kind q.0)
+    let p = and_parts (same_result a.carried b.carried) ((a.kind == b.kind) && ((a.part == b.part) && same_places a.places b.places)) s in
+    let q = and_parts (a.kind == b.kind) ((a.part == b.part) && same_places a.places b.places) p.1 in
+    let r = and_parts (a.part == b.part) (same_places a.places b.places) q.1 in
+    alike a b (same_result_is a.carried b.carried p.0) (same_places_are a.places b.places r.1) (eqb-true a.kind b.kind q.0) (eqb-true a.part b.part r.0)
   where
-    alike : (a b : Landing) → a.carried ≡ b.carried → a.places ≡ b.places → a.kind ≡ b.kind → a ≡ b
-    alike a b x y z = λ i. record { carried = x i; places = y i; kind = z i }
+    alike : (a b : Landing) → a.carried ≡ b.carried → a.places ≡ b.places → a.kind ≡ b.kind → a.part ≡ b.part → a ≡ b
+    alike a b x y z w = λ i. record { carried = x i; places = y i; kind = z i; part = w i }
 
 -- ---- a branch to a landing
 

@@ -1,6 +1,6 @@
 -- The bytes of rewritten code.
 use Rattle.rewrite_bodies.proofs.Charges.{charge, charge_behind}
-use Rattle.rewrite_bodies.specs.calls.Landings.{number_of, landing_behind}
+use Rattle.rewrite_bodies.specs.calls.Landings.{number_of, landing_behind, part_of}
 use Rattle.std.proofs.Common.{◌≡◌, ℕ, zero, suc, ◌+◌, ◌*◌, ◌/◌, ◌%◌, ◌^◌, ◌<◌, ◌≤◌, nat_lt, List, [], ◌∷◌, ◌++◌, length, Option, Some, None, option_map, Bool, true, false, refl, arith, take, if◌then◌else◌}
 use Rattle.std.specs.Int.{w32, w64, cast_signed}
 use Rattle.std.proofs.lemmas.Bool.{ltb-false}
@@ -272,10 +272,10 @@ module _ (C : Ctx) (few : FewNumbers C) where
       let d = ten_bytes (ls + n) in
       omega (arith, a, b, c, d)
 
-  pub len_test_flag : (ls : ℕ) (es : List Place) (o : ℕ) (k : Nodes) → length es ≤ C.slots → code_length (test_flag C ls es o k) + charge_behind C es ≤ 73 + 16 * length es + code_length k
-  len_test_flag ls es o k le = by_number (number_of (landing_behind es) C.landings)
+  pub len_test_flag : (ls : ℕ) (es : List Place) (o : ℕ) (k : Nodes) → length es ≤ C.slots → code_length (test_flag C ls es o k) + charge_behind C (part_of C.locals o) es ≤ 73 + 16 * length es + code_length k
+  len_test_flag ls es o k le = by_number (number_of (landing_behind (part_of C.locals o) es) C.landings)
     where
-      by_number : (q : Option ℕ) → code_length (checked q C ls es o (get_flag C) (const (i32 0)) k) + charge q (Some (landing_behind es)) ≤ 73 + 16 * length es + code_length k
+      by_number : (q : Option ℕ) → code_length (checked q C ls es o (get_flag C) (const (i32 0)) k) + charge q (Some (landing_behind (part_of C.locals o) es)) ≤ 73 + 16 * length es + code_length k
       by_number None =
           let arm = set C (kind_at C) (unwind C ls es o) in
           let a = len_global_get (flag_of C.source) (if_any (const (i32 0) arm) k) in

@@ -1,7 +1,7 @@
 -- The bytes of rewritten nodes and bodies.
 use Rattle.rewrite_bodies.proofs.Laid.{same_at, room_landed}
 use Rattle.rewrite_bodies.proofs.Charges.{costs_of, charge, charge_at, charge_behind, charge_call, charged, charge_low, all_paid, charge_of}
-use Rattle.rewrite_bodies.specs.calls.Landings.{number_in, landing_of, one_kind, with_some, landing_call, landings_call, landings_jump, landings_from, landed, landing_at, needed}
+use Rattle.rewrite_bodies.specs.calls.Landings.{number_in, landing_of, one_kind, with_some, landing_call, landings_call, landings_jump, landings_from, landed, landing_at, needed, part_of}
 use Rattle.std.proofs.Common.{◌≡◌, ℕ, zero, suc, ◌==◌, ◌+◌, ◌*◌, ◌≤◌, nat_lt, List, [], ◌∷◌, ◌++◌, length, map, reverse, Option, Some, None, Bool, true, false, refl, sym, ap, ◌∙◌, subst, arith, slice_get, option_map, option_to_list, take}
 use Rattle.std.proofs.lemmas.List.{length-reverse}
 use Rattle.wasm_syntax.specs.declared.value.ValType.{ValType}
@@ -68,7 +68,7 @@ module _ (C : Ctx) (few : FewNumbers C) where
         subst (λ z. Behind ls z rest (known own1)) (sym conv) (subst (λ k. code_length (rewrite C (length ls) (grown r own1 ++ js) rest) + charged C (grown r own1 ++ js) rest ≤ live_weight C (grown r own1 ++ js) rest + 12 * k) kg x),
       )
 
-  checked_short : (q : Option ℕ) (d : ℕ) (es : List Place) (o : ℕ) (i : Basic) (k : Nodes) → Risky i → length es ≤ C.slots → code_length (checked q C d es o (guard C i es) (kind C i es) k) + charge q (landing_of i es) ≤ 153 + 16 * length es + code_length k
+  checked_short : (q : Option ℕ) (d : ℕ) (es : List Place) (o : ℕ) (i : Basic) (k : Nodes) → Risky i → length es ≤ C.slots → code_length (checked q C d es o (guard C i es) (kind C i es) k) + charge q (landing_of (part_of C.locals o) i es) ≤ 153 + 16 * length es + code_length k
   checked_short None d es o i k r le =
       let a = len_guard C few i r es (tested C d es o (kind C i es) k) le in
       let b = len_kind C few i r es (unwind_kind C d es o) le in
@@ -76,12 +76,12 @@ module _ (C : Ctx) (few : FewNumbers C) where
       omega (arith, a, b, c)
   checked_short (Some n) d es o i k r le =
       let a = len_landing C few d n o es (guard C i es) (kind C i es) k 83 (λ k. len_guard C few i r es k le) in
-      let b = charge_low (Some n) (one_kind i) es in
+      let b = charge_low (part_of C.locals o) (Some n) (one_kind i) es in
       omega (arith, a, b)
 
-  guarded_short : (d : ℕ) (es : List Place) (o : ℕ) (i : Basic) (k : Nodes) (q : Bool) → (q ≡ true → can_trap i ≡ true) → length es ≤ C.slots → code_length (guarded q C d es o i k) + charge_of C (needed q (landing_of i es)) ≤ 153 + 16 * length es + code_length k
+  guarded_short : (d : ℕ) (es : List Place) (o : ℕ) (i : Basic) (k : Nodes) (q : Bool) → (q ≡ true → can_trap i ≡ true) → length es ≤ C.slots → code_length (guarded q C d es o i k) + charge_of C (needed q (landing_of (part_of C.locals o) i es)) ≤ 153 + 16 * length es + code_length k
   guarded_short d es o i k false t le = omega arith
-  guarded_short d es o i k true t le = checked_short (number_in C.landings (landing_of i es)) d es o i k (risk_of i (t refl)) le
+  guarded_short d es o i k true t le = checked_short (number_in C.landings (landing_of (part_of C.locals o) i es)) d es o i k (risk_of i (t refl)) le
 
   freed_as : (i : Basic) → Treated i → (d : ℕ) (es left : List Place) (o : ℕ) (k : Nodes) → length es ≤ C.slots → length left ≤ length es → code_length (guarded (needs C o i) C d es o i (free C i left k)) + charge_at C o i es ≤ 153 + 16 * length es + code_length k
   freed_as i (sets x) d es left o k le ll = let a = len_spill C few (λ y. x == y) left k (omega (arith, le, ll)) in omega (arith, a, ll)
@@ -122,15 +122,15 @@ module _ (C : Ctx) (few : FewNumbers C) where
 
   -- ---- calls
 
-  abbrev behind_if : Bool → List Place → ℕ
-  behind_if true left = 0
-  behind_if false left = charge_behind C left
+  abbrev behind_if : ℕ → Bool → List Place → ℕ
+  behind_if o true left = 0
+  behind_if o false left = charge_behind C (part_of C.locals o) left
 
-  call_charge : (q : Bool) (type : FuncType) (es : List Place) → charge_call q C (Some type) es ≡ behind_if q (less (length type.params) es)
-  call_charge true type es = refl
-  call_charge false type es = refl
+  call_charge : (o : ℕ) (q : Bool) (type : FuncType) (es : List Place) → charge_call (part_of C.locals o) q C (Some type) es ≡ behind_if o q (less (length type.params) es)
+  call_charge o true type es = refl
+  call_charge o false type es = refl
 
-  after_short : (ls : List Info) (q : Bool) (r : Option ValType) (left : List Place) (o : ℕ) (rest : Nodes) → length left ≤ C.slots → FitsIn C r left → code_length (after_direct q C (length ls) r left o (λ es'. rewrite C (length ls) es' rest)) + behind_if q left ≤ 78 + 16 * length left + code_length (rewrite C (length ls) (grown r left) rest)
+  after_short : (ls : List Info) (q : Bool) (r : Option ValType) (left : List Place) (o : ℕ) (rest : Nodes) → length left ≤ C.slots → FitsIn C r left → code_length (after_direct q C (length ls) r left o (λ es'. rewrite C (length ls) es' rest)) + behind_if o q left ≤ 78 + 16 * length left + code_length (rewrite C (length ls) (grown r left) rest)
   after_short ls true r left o rest le fit = let a = len_keep_result C few r left (rewrite C (length ls) (grown r left) rest) fit in omega (arith, a)
   after_short ls false r left o rest le fit =
       let k = rewrite C (length ls) (grown r left) rest in
@@ -157,9 +157,9 @@ module _ (C : Ctx) (few : FewNumbers C) where
       let b = len_call (mapped C.source f) code in
       let e = after_short ls q r left o rest low room.0 in
       let g = length_parts n es in
-      let cc_ = call_charge q type es in
-      let all : code_length (call_code C d es o f (Some type) (λ es'. rewrite C d es' rest)) + (charge_call q C (Some type) es + charged C (grown r left) rest) ≤ node_weight (jump_length (Call f)) (length es) + live_weight C (grown r left) rest + 12 * known own = omega (arith, x.1, x.2, b, e, g, cc_) in
-      subst (λ y. code_length (call_code C d es o f y (λ es'. rewrite C d es' rest)) + (charge_call q C y es + behind_call y es (λ es'. charged C es' rest)) ≤ node_weight (jump_length (Call f)) (length es) + behind_call y es (λ es'. live_weight C es' rest) + 12 * known own) (sym h.1) all
+      let cc_ = call_charge o q type es in
+      let all : code_length (call_code C d es o f (Some type) (λ es'. rewrite C d es' rest)) + (charge_call (part_of C.locals o) q C (Some type) es + charged C (grown r left) rest) ≤ node_weight (jump_length (Call f)) (length es) + live_weight C (grown r left) rest + 12 * known own = omega (arith, x.1, x.2, b, e, g, cc_) in
+      subst (λ y. code_length (call_code C d es o f y (λ es'. rewrite C d es' rest)) + (charge_call (part_of C.locals o) q C y es + behind_call y es (λ es'. charged C es' rest)) ≤ node_weight (jump_length (Call f)) (length es) + behind_call y es (λ es'. live_weight C es' rest) + 12 * known own) (sym h.1) all
 
   -- the index of an entry is moved
   len_past : (q : Bool) (k : Nodes) → code_length (past_shown q C k) ≤ 12 + code_length k
@@ -386,24 +386,24 @@ type_in C f type e = inside (slice_get (function_types C.source) f) e
 
 -- the landings do not depend on what landings are known
 module _ (C : Ctx) (ys : List Landing) where
-  same_called : (b : Bool) (o : Option FuncType) (es : List Place) (xs : List Landing) (go go' : List Place → List Landing → List Landing) → ((es' : List Place) (xs' : List Landing) → go es' xs' ≡ go' es' xs') → landings_call b o es xs go ≡ landings_call b o es xs go'
-  same_called b None es xs go go' f = refl
-  same_called b (Some type) es xs go go' f = f (grown (result_of type) (less (length type.params) es)) (landing_call b (less (length type.params) es) xs)
+  same_called : (p : ℕ) (b : Bool) (o : Option FuncType) (es : List Place) (xs : List Landing) (go go' : List Place → List Landing → List Landing) → ((es' : List Place) (xs' : List Landing) → go es' xs' ≡ go' es' xs') → landings_call p b o es xs go ≡ landings_call p b o es xs go'
+  same_called p b None es xs go go' f = refl
+  same_called p b (Some type) es xs go go' f = f (grown (result_of type) (less (length type.params) es)) (landing_call p b (less (length type.params) es) xs)
 
-  same_jump : (j : Jump) (es : List Place) (xs : List Landing) (go go' : List Place → List Landing → List Landing) → ((es' : List Place) (xs' : List Landing) → go es' xs' ≡ go' es' xs') → landings_jump C j es xs go ≡ landings_jump (landed C C.exposed ys) j es xs go'
-  same_jump Unreachable es xs go go' f = refl
-  same_jump (Br l) es xs go go' f = refl
-  same_jump (BrIf l) es xs go go' f = f (less 1 es) xs
-  same_jump (BrTable ts d) es xs go go' f = refl
-  same_jump Return es xs go go' f = refl
-  same_jump (Call g) es xs go go' f = same_called (nat_lt g (import_count C.source)) (type_at C.source g) es xs go go' f
-  same_jump (CallIndirect t) es xs go go' f = same_called true (slice_get C.source.types t) (less 1 es) xs go go' f
+  same_jump : (p : ℕ) (j : Jump) (es : List Place) (xs : List Landing) (go go' : List Place → List Landing → List Landing) → ((es' : List Place) (xs' : List Landing) → go es' xs' ≡ go' es' xs') → landings_jump C p j es xs go ≡ landings_jump (landed C C.exposed ys) p j es xs go'
+  same_jump p Unreachable es xs go go' f = refl
+  same_jump p (Br l) es xs go go' f = refl
+  same_jump p (BrIf l) es xs go go' f = f (less 1 es) xs
+  same_jump p (BrTable ts d) es xs go go' f = refl
+  same_jump p Return es xs go go' f = refl
+  same_jump p (Call g) es xs go go' f = same_called p (nat_lt g (import_count C.source)) (type_at C.source g) es xs go go' f
+  same_jump p (CallIndirect t) es xs go go' f = same_called p true (slice_get C.source.types t) (less 1 es) xs go go' f
 
   same_landings : (es : List Place) (nodes : Nodes) (xs : List Landing) → landings_from C es nodes xs ≡ landings_from (landed C C.exposed ys) es nodes xs
   same_landings es stop xs = refl
   same_landings es (basic o i rest) xs =
       same_landings (after_plain C es i) rest (with_some (landing_at C o i es) xs) ∙ ap (λ z. landings_from (landed C C.exposed ys) z rest (with_some (landing_at C o i es) xs)) (same_at C C.exposed ys es i).1
-  same_landings es (jump o j rest) xs = same_jump j es xs (λ es' xs'. landings_from C es' rest xs') (λ es' xs'. landings_from (landed C C.exposed ys) es' rest xs') (λ es' xs'. same_landings es' rest xs')
+  same_landings es (jump o j rest) xs = same_jump (part_of C.locals o) j es xs (λ es' xs'. landings_from C es' rest xs') (λ es' xs'. landings_from (landed C C.exposed ys) es' rest xs') (λ es' xs'. same_landings es' rest xs')
   same_landings es (block o t inner end rest) xs =
       same_landings (grown t (under es)) rest (landings_from C (under es) inner xs) ∙ ap (landings_from (landed C C.exposed ys) (grown t (under es)) rest) (same_landings (under es) inner xs)
   same_landings es (loop o t inner end rest) xs =
@@ -443,7 +443,7 @@ module _ (C : Ctx) (os : List ℕ) (ys : List Landing) where
 pub bodies_short : (C : Ctx) → BodyShort C
 bodies_short C nodes few results it rm ty =
     let of = λ (t : ℕ) (type : FuncType) (e : slice_get C.source.types t ≡ Some type). one_result type.results (results t type e) in
-    let os = exposed_in nodes in
+    let os = exposed_in C.source.memories nodes in
     let C1 = landed C os [] in
     let xs = landings_from C1 [] nodes [] in
     let D = landed C os xs in

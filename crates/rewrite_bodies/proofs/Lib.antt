@@ -1,4 +1,5 @@
 pub mod Run
+pub mod Longer
 pub mod Parts
 pub mod Risks
 pub mod FactLaws

@@ -1,5 +1,5 @@
 -- Lemmas on single parts: a basic instruction under more locals and globals, results that arrive.
-use Rattle.std.proofs.Common.{◌≡◌, ℕ, zero, suc, ◌+◌, ◌*◌, ◌/◌, ◌%◌, ◌≤◌, ◌==◌, List, [], ◌∷◌, ◌++◌, length, Option, Some, None, Bool, true, false, nat_le, refl, sym, ap, ◌∙◌, subst, arith, length-append, slice_get, slice_set, if◌then◌else◌, take, drop, replicate, Result, Ok, Err, leb-true, length-drop, length-take-le, subst₂}
+use Rattle.std.proofs.Common.{◌≡◌, ℕ, zero, suc, ◌+◌, ◌*◌, ◌/◌, ◌%◌, ◌≤◌, ◌==◌, List, [], ◌∷◌, ◌++◌, length, Option, Some, None, Bool, true, false, nat_le, refl, sym, ap, ◌∙◌, subst, arith, length-append, slice_get, slice_set, if◌then◌else◌, replicate, Result, Ok, Err, leb-true, subst₂}
 use Rattle.wasm_syntax.specs.declared.value.ValType.{ValType}
 use Rattle.wasm_syntax.specs.declared.value.ValType.TheVariants.{I32}
 use Rattle.wasm_syntax.specs.declared.value.Value.{Value}
@@ -26,6 +26,8 @@ use Rattle.int_ops.specs.declared.operators.Binary.TheVariants.{Add, Sub, Mul, D
 use Rattle.std.proofs.lemmas.List.{length-replicate}
 use Rattle.std.proofs.Math.Nat.{mul-div_cancel_left}
 use Rattle.rewrite_bodies.specs.calls.Agreement.{One, Holds, awaits, pending, joined, FitsLabels, MemoryFits, WorldFits, flagged}
+use Rattle.rewrite_bodies.specs.calls.Known.{HasLeast}
+use Rattle.rewrite_bodies.proofs.Longer.{least_longer, put_fits, put_longer, copy_longer, grow_longer}
 use Rattle.rewrite_bodies.specs.calls.Steps.{To, Shell, st}
 use Rattle.rewrite_bodies.proofs.Run.{stored, HasPlace, if_same, slice_get-put_same, types-slice_set, added_at, more_parts, one_step, holds_put, get_own}
 use Rattle.int_ops.specs.Integers.{binary as int_binary}
@@ -57,15 +59,6 @@ one_result v t d = rw (same_of (type_of v) t d) refl
 
 leb_cases : (a b : ℕ) (q : Bool) → nat_le a b ≡ q → (q ≡ true) → a ≤ b
 leb_cases a b q e t = leb-true a b (e ∙ t)
-
-pub put_fits : (m m' : Memory) (at : ℕ) (new : List ℕ) (q : Bool) → nat_le (at + length new) (length m.bytes) ≡ q → (if q then Some (record m { bytes = memories.splice m.bytes at new }) else None) ≡ Some m' → (length m'.bytes ≡ length m.bytes) × (m'.max ≡ m.max)
-put_fits m m' at new true q e =
-    let z : record m { bytes = memories.splice m.bytes at new } ≡ m' = cc in
-    let le : at + length new ≤ length m.bytes = leb-true (at + length new) (length m.bytes) q in
-    let n : length (memories.splice m.bytes at new) ≡ length m.bytes =
-    omega (arith, le, length-append (take at m.bytes ++ new) (drop (at + length new) m.bytes), length-append (take at m.bytes) new, length-drop (at + length new) m.bytes, length-take-le at m.bytes (omega (arith, le))) in
-    (ap (λ k. length k.bytes) (sym z) ∙ n, ap (λ k. k.max) (sym z))
-put_fits m m' at new false q e = cc
 
 pub put_keeps : (m m' : Memory) (at : ℕ) (new : List ℕ) → memories.put m at new ≡ Some m' → MemoryFits (Some m) → MemoryFits (Some m')
 put_keeps m m' at new e h =
@@ -144,6 +137,10 @@ module _ (M : Engine) (gl : List ValType) (r : Option ValType) (can : Bool) (l e
   rel_divides (Err DivideByZero) go go' c h = (c, 1, refl)
   rel_divides (Err Overflow) go go' c h = (c, 2, refl)
 
+-- a longer memory than a world's
+pub least_is : (M : Engine) (gl : List ValType) (g : World) (m m' : Memory) → WorldFits M gl g → g.memory ≡ Some m → length m.bytes ≤ length m'.bytes → HasLeast M.program.module_.memories (Some m')
+least_is M gl g m m' h e le = least_longer M.program.module_.memories (Some m) (Some m') le (subst (HasLeast M.program.module_.memories) e h.least)
+
 -- the same memory in two worlds
 pub memory_is : (M : Engine) (gl : List ValType) (g : World) (m : Memory) → WorldFits M gl g → g.memory ≡ Some m → MemoryFits (Some m)
 memory_is M gl g m h e = subst MemoryFits e h.memory
@@ -185,7 +182,7 @@ module _ (M : Engine) (gl : List ValType) (C : Ctx) (es : List Place) (l : List 
   global_set_if x v w true e d = (
     rw (get_own g.globals (b ∷ []) x w e, d, set-append_left g.globals (b ∷ []) x v w e) refl,
     refl,
-    record { globals = types-slice_set g.globals x (type_of w) v (types_get g.globals x w e) (sym (same_type_is (type_of w) (type_of v) d)) ∙ wf.globals; memory = wf.memory; table = wf.table },
+    record { globals = types-slice_set g.globals x (type_of w) v (types_get g.globals x w e) (sym (same_type_is (type_of w) (type_of v) d)) ∙ wf.globals; memory = wf.memory; least = wf.least; table = wf.table },
     refl,
   )
 
@@ -216,7 +213,7 @@ module _ (M : Engine) (gl : List ValType) (C : Ctx) (es : List Place) (l : List 
 
   grown_rel : (o : Option Memory) (m : Memory) (n old : ℕ) → grow m n ≡ o → g.memory ≡ Some m → Rel M gl (Some I32) false l ex b (effects.grown o g old l) (effects.grown o (flagged M g b) old (l ++ ex))
   grown_rel None m n old e h = (refl, refl, wf, refl)
-  grown_rel (Some m') m n old e h = (refl, refl, record { globals = wf.globals; memory = grow_keeps m m' n e (memory_is M gl g m wf h); table = wf.table }, refl)
+  grown_rel (Some m') m n old e h = (refl, refl, record { globals = wf.globals; memory = grow_keeps m m' n e (memory_is M gl g m wf h); least = least_is M gl g m m' wf h (grow_longer m m' n (nat_le (pages m + n) m.max) e); table = wf.table }, refl)
 
   value_rel : (t : ValType) (n : ℕ) (can : Bool) → Rel M gl (Some t) can l ex b (gives g l (value t n ∷ [])) (gives (flagged M g b) (l ++ ex) (value t n ∷ []))
   value_rel t n can = (refl, refl, wf, one_result (value t n) t (value_type t n))
@@ -257,17 +254,17 @@ module _ (M : Engine) (gl : List ValType) (C : Ctx) (es : List Place) (l : List 
   framed_as i (is_store t align o) vs m =
       rel_two M gl None true l ex b (store_type t) I32 _ _ vs (λ n a. rel_some M gl None true l ex b g.memory _ _ (λ k e.
       rel_bounds M gl None true l ex b (memories.put k (address a o) (to_bytes (store_bits t / 8) n)) _ _ refl (λ k' d.
-      (refl, refl, record { globals = wf.globals; memory = put_keeps k k' (address a o) (to_bytes (store_bits t / 8) n) d (memory_is M gl g k wf e); table = wf.table }, refl))))
+      (refl, refl, record { globals = wf.globals; memory = put_keeps k k' (address a o) (to_bytes (store_bits t / 8) n) d (memory_is M gl g k wf e); least = least_is M gl g k k' wf e (put_longer k k' (address a o) (to_bytes (store_bits t / 8) n) d); table = wf.table }, refl))))
   framed_as i is_size vs m = rel_none M gl (Some I32) false l ex b _ _ vs (rel_some M gl (Some I32) false l ex b g.memory _ _ (λ k e. (refl, refl, wf, refl)))
   framed_as i is_grow vs m = rel_one M gl (Some I32) false l ex b I32 _ _ vs (λ n. rel_some M gl (Some I32) false l ex b g.memory _ _ (λ k e. grown_rel (grow k n) k n (pages k) refl e))
   framed_as i is_copy vs m =
       rel_three M gl None true l ex b _ _ vs (λ n from to. rel_some M gl None true l ex b g.memory _ _ (λ k e.
       rel_bounds M gl None true l ex b (memories.copy k (modulo I32 to) (modulo I32 from) (modulo I32 n)) _ _ refl (λ k' d.
-      (refl, refl, record { globals = wf.globals; memory = copy_keeps k k' (modulo I32 to) (modulo I32 from) (modulo I32 n) d (memory_is M gl g k wf e); table = wf.table }, refl))))
+      (refl, refl, record { globals = wf.globals; memory = copy_keeps k k' (modulo I32 to) (modulo I32 from) (modulo I32 n) d (memory_is M gl g k wf e); least = least_is M gl g k k' wf e (copy_longer k k' (modulo I32 to) (modulo I32 from) (modulo I32 n) (nat_le (modulo I32 from + modulo I32 n) (length k.bytes)) d); table = wf.table }, refl))))
   framed_as i is_fill vs m =
       rel_three M gl None true l ex b _ _ vs (λ n byte to. rel_some M gl None true l ex b g.memory _ _ (λ k e.
       rel_bounds M gl None true l ex b (memories.fill k (modulo I32 to) (byte % 256) (modulo I32 n)) _ _ refl (λ k' d.
-      (refl, refl, record { globals = wf.globals; memory = put_keeps k k' (modulo I32 to) (replicate (modulo I32 n) (byte % 256)) d (memory_is M gl g k wf e); table = wf.table }, refl))))
+      (refl, refl, record { globals = wf.globals; memory = put_keeps k k' (modulo I32 to) (replicate (modulo I32 n) (byte % 256)) d (memory_is M gl g k wf e); least = least_is M gl g k k' wf e (put_longer k k' (modulo I32 to) (replicate (modulo I32 n) (byte % 256)) d); table = wf.table }, refl))))
   framed_as i (is_const v) vs m = rel_none M gl (Some (type_of v)) false l ex b _ _ vs (refl, refl, wf, one_result v (type_of v) refl)
   framed_as i (is_compare t op) vs m = rel_two M gl (Some I32) false l ex b t t _ _ vs (λ n k. (refl, refl, wf, refl))
   framed_as i (is_binary t op) vs m = rel_two M gl (Some t) (divides op) l ex b t t _ _ vs (λ n k. binop_rel t op n k)

@@ -26,7 +26,7 @@ use Rattle.rewrite_bodies.proofs.Copies.{labels_fixed, fixed_under, fixed_holds,
 use Rattle.wasm_syntax.proofs.Types.{same_type_is}
 use Rattle.rewrite_bodies.proofs.Guards.{guard_to}
 use Rattle.rewrite_bodies.proofs.Landed.{marked, types_marked, fits_marked, br_if_down, mark_to}
-use Rattle.rewrite_bodies.specs.calls.Landings.{number_in, landing_of}
+use Rattle.rewrite_bodies.specs.calls.Landings.{number_in, landing_of, part_of}
 use Rattle.rewrite_bodies.specs.calls.Offsets.{SmallOffset}
 use Rattle.std.specs.Prelude.{unwrap_or}
 use Rattle.rewrite_bodies.specs.calls.Facts.{needs}
@@ -118,20 +118,20 @@ module _ (M M' : Engine) (E : ℕ) (gl : List ValType) (W : Wrap) where
     kind_to Y i j k vs below t size mf so h c nw is = (guard_to M' C l size [] Y k g0 g co ex (joined ss) e ops vs below i refl mf so t h c nw).1 j is
 
     -- the number of its landing, and the added locals behind a guard
-    abbrev pub number : Basic → Option ℕ
-    number i = number_in C.landings (landing_of i es)
+    abbrev pub number : ℕ → Basic → Option ℕ
+    number o i = number_in C.landings (landing_of (part_of C.locals o) i es)
 
     abbrev pub behind_guard : Bool → Basic → ℕ → List Value
     behind_guard false i o = ex
-    behind_guard true i o = marked (number i) C o ex
+    behind_guard true i o = marked (number o i) C o ex
 
     types_behind : (b : Bool) (i : Basic) (o : ℕ) → types ex ≡ added C.slots → types (behind_guard b i o) ≡ types ex
     types_behind false i o room = refl
-    types_behind true i o room = types_marked (number i) C o ex room
+    types_behind true i o room = types_marked (number o i) C o ex room
 
     fits_behind : (b : Bool) (i : Basic) (o : ℕ) (a : Option ValType) (Ls' : List Label) (ss' : List (List Place)) → length (joined ss') ≤ C.slots → FitsLabels C l ex a Ls' ss' → FitsLabels C l (behind_guard b i o) a Ls' ss'
     fits_behind false i o a Ls' ss' low h = h
-    fits_behind true i o a Ls' ss' low h = fits_marked (number i) C o l ex a Ls' ss' low h
+    fits_behind true i o a Ls' ss' low h = fits_marked (number o i) C o l ex a Ls' ss' low h
 
     -- a guard that finds no trap
     checked_to : (q : Option ℕ) (i : Basic) (o : ℕ) (k : Nodes) (vs below : List Value) → types ex ≡ added C.slots → can_trap i ≡ true → length C.locals ≡ length l → MemoryFits g.memory → SmallOffset i → Holds l (marked q C o ex) (joined ss) ops e → cut (takes i) ops ≡ parts vs below → effect i g l vs ≢ unfit → kind_of (effect i g l vs) ≡ 0 → To M' 0 30 (st X (l ++ ex) ops (checked q C ls es o (guard C i es) (kind C i es) k) g0 co) (st X (l ++ marked q C o ex) ops k g0 co)
@@ -142,7 +142,7 @@ module _ (M M' : Engine) (E : ℕ) (gl : List ValType) (W : Wrap) where
 
     guarded_to : (i : Basic) (b : Bool) (o : ℕ) (k : Nodes) (vs below : List Value) → types ex ≡ added C.slots → (b ≡ true → can_trap i ≡ true) → length C.locals ≡ length l → MemoryFits g.memory → SmallOffset i → Holds l (behind_guard b i o) (joined ss) ops e → cut (takes i) ops ≡ parts vs below → effect i g l vs ≢ unfit → kind_of (effect i g l vs) ≡ 0 → To M' 0 30 (st X (l ++ ex) ops (guarded b C ls es o i k) g0 co) (st X (l ++ behind_guard b i o) ops k g0 co)
     guarded_to i false o k vs below room t size mf so h c nw z = weaken M' (still M' _) (omega arith) (omega arith)
-    guarded_to i true o k vs below room t size mf so h c nw z = checked_to (number i) i o k vs below room (t refl) size mf so h c nw z
+    guarded_to i true o k vs below room t size mf so h c nw z = checked_to (number o i) i o k vs below room (t refl) size mf so h c nw z
 
     abbrev pub F : Nodes → Frame
     F rest = frame ix r cl l (label ops rest en kd ∷ Ls)

@@ -25,7 +25,7 @@ use Rattle.rewrite_bodies.specs.calls.Standing.{Stands, After}
 use Rattle.rewrite_bodies.proofs.Sim.{refit, len_of, shell, tgt, wit, armed, if_up_to, verdict_to, kind_to, usual_gives, push_sim, get_sim, set_sim, tee_sim, block_sim, loop_sim, if_sim, room_height}
 use Rattle.rewrite_bodies.proofs.Stays.{Stays, Usual, stays}
 use Rattle.rewrite_bodies.proofs.Control.{end_sim, br_node, br_if_node, return_node, table_node}
-use Rattle.rewrite_bodies.specs.calls.Landings.{number_of, number_in, landing_of, one_kind, carrying}
+use Rattle.rewrite_bodies.specs.calls.Landings.{number_of, number_in, landing_of, one_kind, carrying, part_of}
 use Rattle.rewrite_bodies.proofs.Landed.{mark_to}
 use Rattle.rewrite_bodies.proofs.OneKind.{only_kind, takes_one}
 use Rattle.rewrite_bodies.proofs.Unwind.{all_ops, all_in, tell-all}
@@ -113,7 +113,7 @@ module _ (M M' : Engine) (E : ℕ) (gl : List ValType) (W : Wrap) (S : Stands M 
     LC = label (v ∷ ops) (basic o i rest) en kd
 
     abbrev Found : Landing
-    Found = record { carried = Some (place_type e1); places = e ++ joined ss; kind = suc j }
+    Found = record { carried = Some (place_type e1); places = e ++ joined ss; kind = suc j; part = part_of C.locals o }
 
     abbrev Before : Config
     Before = st (shell W C r kd Ls ss Fs ws) (l ++ slice_set ex (offset_at C) (values.I32 o)) (values.I32 1 ∷ (v ∷ ops)) (jump 0 (BrIf (suc (length Ls) + n)) k) (flagged M g (values.I32 0)) co
@@ -128,10 +128,10 @@ module _ (M M' : Engine) (E : ℕ) (gl : List ValType) (W : Wrap) (S : Stands M 
         (λ ex2 hk. (all_in C l ex2 None (LC ∷ Ls) ((e1 ∷ e) ∷ ss) hk).1) (omega (arith, low)) (tell-all (LC ∷ Ls) co) pre
 
   landed_trap : (C : Ctx) (ex : List Value) (e : List Place) (ss : List (List Place)) (ws : List Wit) (ix cl : ℕ) (r : Option ValType) (l ops : List Value) (en : ℕ) (kd : Kind) (Ls : List Label) (Fs : List Frame) (g : World) (co : List CollectorCall) (o : ℕ) (i : Basic) (rest : Nodes) → FitsFrame M E gl None (frame ix r cl l (label ops (basic o i rest) en kd ∷ Ls)) (wit C ex (e ∷ ss)) → FitsFrames M E gl W.result r Fs ws → WorldFits M gl g
-      → (t : Config) (k : Nodes) (vs below : List Value) (j n : ℕ) → cut (takes i) ops ≡ parts vs below → effect i g l vs ≡ fails (suc j) → number_in C.landings (landing_of i (e ++ joined ss)) ≡ Some n → To M' 1 30 t (st (shell W C r kd Ls ss Fs ws) (l ++ slice_set ex (offset_at C) (values.I32 o)) (values.I32 1 ∷ ops) (jump 0 (BrIf (suc (length Ls) + n)) k) (flagged M g (values.I32 0)) co) → Comes M M' E gl W t (traps (suc j) (config (frame ix r cl l (label ops (basic o i rest) en kd ∷ Ls) ∷ Fs) g co))
+      → (t : Config) (k : Nodes) (vs below : List Value) (j n : ℕ) → cut (takes i) ops ≡ parts vs below → effect i g l vs ≡ fails (suc j) → number_in C.landings (landing_of (part_of C.locals o) i (e ++ joined ss)) ≡ Some n → To M' 1 30 t (st (shell W C r kd Ls ss Fs ws) (l ++ slice_set ex (offset_at C) (values.I32 o)) (values.I32 1 ∷ ops) (jump 0 (BrIf (suc (length Ls) + n)) k) (flagged M g (values.I32 0)) co) → Comes M M' E gl W t (traps (suc j) (config (frame ix r cl l (label ops (basic o i rest) en kd ∷ Ls) ∷ Fs) g co))
   landed_trap C ex e ss ws ix cl r l ops en kd Ls Fs g co o i rest f fs wf t k vs below j n c p is pre = by_kind (one_kind i) refl is
     where
-      by_places : (e : List Place) (ops : List Value) (k1 : ℕ) → FitsFrame M E gl None (frame ix r cl l (label ops (basic o i rest) en kd ∷ Ls)) (wit C ex (e ∷ ss)) → one_kind i ≡ Some k1 → cut (takes i) ops ≡ parts vs below → number_in C.landings (carrying (Some k1) (e ++ joined ss)) ≡ Some n → To M' 1 30 t (st (shell W C r kd Ls ss Fs ws) (l ++ slice_set ex (offset_at C) (values.I32 o)) (values.I32 1 ∷ ops) (jump 0 (BrIf (suc (length Ls) + n)) k) (flagged M g (values.I32 0)) co) → Comes M M' E gl W t (traps (suc j) (config (frame ix r cl l (label ops (basic o i rest) en kd ∷ Ls) ∷ Fs) g co))
+      by_places : (e : List Place) (ops : List Value) (k1 : ℕ) → FitsFrame M E gl None (frame ix r cl l (label ops (basic o i rest) en kd ∷ Ls)) (wit C ex (e ∷ ss)) → one_kind i ≡ Some k1 → cut (takes i) ops ≡ parts vs below → number_in C.landings (carrying (part_of C.locals o) (Some k1) (e ++ joined ss)) ≡ Some n → To M' 1 30 t (st (shell W C r kd Ls ss Fs ws) (l ++ slice_set ex (offset_at C) (values.I32 o)) (values.I32 1 ∷ ops) (jump 0 (BrIf (suc (length Ls) + n)) k) (flagged M g (values.I32 0)) co) → Comes M M' E gl W t (traps (suc j) (config (frame ix r cl l (label ops (basic o i rest) en kd ∷ Ls) ∷ Fs) g co))
       by_places [] [] k1 f one c is pre =
           let m = takes_one i k1 one in
           let z : cut (takes i) [] ≡ short = ap (λ m. cut m []) m.1 in
@@ -140,10 +140,10 @@ module _ (M M' : Engine) (E : ℕ) (gl : List ValType) (W : Wrap) (S : Stands M 
       by_places (e1 ∷ e) [] k1 f one c is pre = absurd f.labels.0
       by_places (e1 ∷ e) (v ∷ ops) k1 f one c is pre =
           let same : suc j ≡ k1 = only_kind i g l vs k1 (suc j) one p in
-          let is' : number_of (Found C ex e1 e ss ws ix cl r l v ops en kd Ls Fs g co o i rest f fs wf t k j n) C.landings ≡ Some n = subst (λ z. number_in C.landings (carrying (Some z) ((e1 ∷ e) ++ joined ss)) ≡ Some n) (sym same) is in
+          let is' : number_of (Found C ex e1 e ss ws ix cl r l v ops en kd Ls Fs g co o i rest f fs wf t k j n) C.landings ≡ Some n = subst (λ z. number_in C.landings (carrying (part_of C.locals o) (Some z) ((e1 ∷ e) ++ joined ss)) ≡ Some n) (sym same) is in
           carried_trap C ex e1 e ss ws ix cl r l v ops en kd Ls Fs g co o i rest f fs wf t k j n is' pre
 
-      by_kind : (q : Option ℕ) → one_kind i ≡ q → number_in C.landings (carrying q (e ++ joined ss)) ≡ Some n → Comes M M' E gl W t (traps (suc j) (config (frame ix r cl l (label ops (basic o i rest) en kd ∷ Ls) ∷ Fs) g co))
+      by_kind : (q : Option ℕ) → one_kind i ≡ q → number_in C.landings (carrying (part_of C.locals o) q (e ++ joined ss)) ≡ Some n → Comes M M' E gl W t (traps (suc j) (config (frame ix r cl l (label ops (basic o i rest) en kd ∷ Ls) ∷ Fs) g co))
       by_kind None one is = absurd (cc)
       by_kind (Some k1) one is = by_places e ops k1 f one c is pre
 
@@ -180,13 +180,13 @@ module _ (M M' : Engine) (E : ℕ) (gl : List ValType) (W : Wrap) (S : Stands M 
         let tr = subst (λ z. Rel M gl (result_type C esb i) (can_trap i) l ex (values.I32 0) z (effect i gb (l ++ ex) vs)) p (framed M gl C esb l g ex (values.I32 0) f.size wf (sym f.flag) i vs (match_of l ex (takes i) (joined ss) e ops vs below h.0 c)) in
         let j = tr.1 in
         let is : kind_of (effect i g l vs) ≡ suc j = ap kind_of p ∙ tr.2 in
-        by_need (needs C o i) refl tr.0 (subst (λ z. Comes M M' E gl W (TB true) (traps z (config (FB ∷ Fs) g co))) (sym tr.2) (by_number (number_in C.landings (landing_of i esb)) j refl tr.0 is (p ∙ ap fails tr.2)))
+        by_need (needs C o i) refl tr.0 (subst (λ z. Comes M M' E gl W (TB true) (traps z (config (FB ∷ Fs) g co))) (sym tr.2) (by_number (number_in C.landings (landing_of (part_of C.locals o) i esb)) j refl tr.0 is (p ∙ ap fails tr.2)))
       where
         by_need : (b : Bool) → needs C o i ≡ b → can_trap i ≡ true → Comes M M' E gl W (TB true) (traps k (config (FB ∷ Fs) g co)) → Comes M M' E gl W (TB b) (traps k (config (FB ∷ Fs) g co))
         by_need true n t h = h
         by_need false n t h = absurd (safe n t vs below k c p)
 
-        by_number : (q : Option ℕ) (j : ℕ) → number_in C.landings (landing_of i esb) ≡ q → can_trap i ≡ true → kind_of (effect i g l vs) ≡ suc j → effect i g l vs ≡ fails (suc j) → Comes M M' E gl W (st XB (l ++ ex) ops (checked q C lsb esb o (guard C i esb) (kind C i esb) kb) gb co) (traps (suc j) (config (FB ∷ Fs) g co))
+        by_number : (q : Option ℕ) (j : ℕ) → number_in C.landings (landing_of (part_of C.locals o) i esb) ≡ q → can_trap i ≡ true → kind_of (effect i g l vs) ≡ suc j → effect i g l vs ≡ fails (suc j) → Comes M M' E gl W (st XB (l ++ ex) ops (checked q C lsb esb o (guard C i esb) (kind C i esb) kb) gb co) (traps (suc j) (config (FB ∷ Fs) g co))
         by_number None j num ct is p =
             let h = f.labels in
             let T0 = st XB (l ++ ex) ops (guard C i esb (tested C lsb esb o (kind C i esb) kb)) gb co in
@@ -277,12 +277,12 @@ module _ (M M' : Engine) (E : ℕ) (gl : List ValType) (W : Wrap) (S : Stands M 
   node_sim C ex e ss ws ix cl r l ops en kd Ls Fs g co (loop o a inner en' rest) f fs wf sh safe = loop_sim M M' E gl W C ex e ss ws ix cl r l ops en kd Ls Fs g co o a inner en' rest f fs wf
   node_sim C ex e ss ws ix cl r l ops en kd Ls Fs g co (choose o a x ea y en' rest) f fs wf sh safe = if_sim M M' E gl W C ex e ss ws ix cl r l ops en kd Ls Fs g co o a x ea y en' rest f fs wf
 
-  labels_sim : (C : Ctx) (ex : List Value) (ss : List (List Place)) (ws : List Wit) (ix cl : ℕ) (r : Option ValType) (l : List Value) (Ls : List Label) (Fs : List Frame) (g : World) (co : List CollectorCall) → FitsFrame M E gl None (frame ix r cl l Ls) (wit C ex ss) → FitsFrames M E gl W.result r Fs ws → WorldFits M gl g → suc (length Fs) ≤ M.depth → KnownLabels (exposed_in (nodes_in M.program ix)) (frail (nodes_in M.program ix)) l g.memory Ls → Comes M M' E gl W (image M W (config (frame ix r cl l Ls ∷ Fs) g co) (wit C ex ss ∷ ws)) (in_frame M Ls (frame ix r cl l Ls) Fs g co)
+  labels_sim : (C : Ctx) (ex : List Value) (ss : List (List Place)) (ws : List Wit) (ix cl : ℕ) (r : Option ValType) (l : List Value) (Ls : List Label) (Fs : List Frame) (g : World) (co : List CollectorCall) → FitsFrame M E gl None (frame ix r cl l Ls) (wit C ex ss) → FitsFrames M E gl W.result r Fs ws → WorldFits M gl g → suc (length Fs) ≤ M.depth → KnownLabels (exposed_in M.program.module_.memories (nodes_in M.program ix)) (frail (nodes_in M.program ix)) l g.memory Ls → Comes M M' E gl W (image M W (config (frame ix r cl l Ls ∷ Fs) g co) (wit C ex ss ∷ ws)) (in_frame M Ls (frame ix r cl l Ls) Fs g co)
   labels_sim C ex ss ws ix cl r l [] Fs g co f fs wf sh k = tt
   labels_sim C ex [] ws ix cl r l (L ∷ Ls) Fs g co f fs wf sh k = absurd f.labels
   labels_sim C ex (e ∷ ss) ws ix cl r l (L ∷ Ls) Fs g co f fs wf sh k =
       node_sim C ex e ss ws ix cl r l L.operands L.end L.kind Ls Fs g co L.nodes f fs wf sh
-      (safe_here C (exposed_in (nodes_in M.program ix)) (frail (nodes_in M.program ix)) k.0 g l L.operands L.nodes L.kind Ls f.exposed k.1)
+      (safe_here C (exposed_in M.program.module_.memories (nodes_in M.program ix)) (frail (nodes_in M.program ix)) k.0 g l L.operands L.nodes L.kind Ls f.exposed k.1)
 
   frames_sim : (Fs : List Frame) (g : World) (co : List CollectorCall) (ws : List Wit) → FitsConfig M E gl W.result (config Fs g co) ws → length Fs ≤ M.depth → Comes M M' E gl W (image M W (config Fs g co) ws) (steps M Fs g co)
   frames_sim [] g co ws h sh = absurd h.1
@@ -302,4 +302,4 @@ module _ (M M' : Engine) (E : ℕ) (gl : List ValType) (W : Wrap) (S : Stands M 
 
   -- each step of the source is some steps of the target
   pub step_sim : (c : Config) (ws : List Wit) → FitsConfig M E gl W.result c ws → length c.frames ≤ M.depth → After M M' E gl W (image M W c ws) (step M c)
-  step_sim c ws h sh = known_after (image M W c ws) (step M c) (frames_sim c.frames c.world c.collected ws h sh) (step_known M c h.2)
+  step_sim c ws h sh = known_after (image M W c ws) (step M c) (frames_sim c.frames c.world c.collected ws h sh) (step_known M c h.0.least h.2)

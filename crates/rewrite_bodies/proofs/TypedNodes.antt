@@ -2,7 +2,7 @@
 use Rattle.rewrite_bodies.proofs.OneKind.{takes_one}
 use Rattle.rewrite_bodies.proofs.Laid.{room_landed}
 use Rattle.rewrite_bodies.proofs.Landed.{same_landing_is}
-use Rattle.rewrite_bodies.specs.calls.Landings.{same_landing, number_of, number_in, landing_of, landing_behind, one_kind, carrying, most_landings, at_end, unless_there, with_some, landing_call, landings_call, landings_jump, landings_from, landed, landing_at, needed}
+use Rattle.rewrite_bodies.specs.calls.Landings.{same_landing, number_of, number_in, landing_of, landing_behind, one_kind, carrying, most_landings, at_end, unless_there, with_some, landing_call, landings_call, landings_jump, landings_from, landed, landing_at, needed, part_of}
 use Rattle.std.proofs.Common.{◌≡◌, ℕ, zero, suc, ◌==◌, if◌then◌else◌, ◌+◌, ◌≤◌, nat_lt, List, [], ◌∷◌, ◌++◌, length, map, reverse, Option, Some, None, Bool, true, false, refl, sym, ap, ap₂, ◌∙◌, subst, subst₂, arith, slice_get, option_map, option_to_list, append_assoc, append-nil, length-append, unwrap_or}
 use Rattle.std.specs.Prelude.{take}
 use Rattle.std.specs.List.{AllByRecursion}
@@ -325,20 +325,20 @@ module _ (C : Ctx) (m : Module) (locals : List ValType) (off : Offers C m locals
           let y : [] ≡ (place_type p ∷ map place_type (take m js)) ++ below = is ∙ ap (λ (q : List ValType). q ++ below) (sym x) in
           absurd (cc)
 
-      by_number : (own : List Place) (k1 : ℕ) → one_kind i ≡ Some k1 → (q : Option ℕ) → number_in C.landings (carrying (Some k1) (own ++ js)) ≡ q → length (own ++ js) ≤ C.slots → AllOwn C (own ++ js) → map place_type (take (takes i) (own ++ js)) ≡ a.takes → map place_type own ≡ a.takes ++ below → Ok (at (inside ls)) z (map place_type own) k → Ok (at (inside ls)) z (map place_type own) (checked q C (length ls) (own ++ js) o (guard C i (own ++ js)) (kind C i (own ++ js)) k)
+      by_number : (own : List Place) (k1 : ℕ) → one_kind i ≡ Some k1 → (q : Option ℕ) → number_in C.landings (carrying (part_of C.locals o) (Some k1) (own ++ js)) ≡ q → length (own ++ js) ≤ C.slots → AllOwn C (own ++ js) → map place_type (take (takes i) (own ++ js)) ≡ a.takes → map place_type own ≡ a.takes ++ below → Ok (at (inside ls)) z (map place_type own) k → Ok (at (inside ls)) z (map place_type own) (checked q C (length ls) (own ++ js) o (guard C i (own ++ js)) (kind C i (own ++ js)) k)
       by_number own k1 one None num le w h is g = in_place own le w h g
       by_number [] k1 one (Some n) num le w h is g =
           let tk = takes_one i k1 one in
           let none : js ≡ [] = no_operand js tk.0 tk.1 h is in
-          let num' : number_in C.landings (carrying (Some k1) []) ≡ Some n = subst (λ (x : List Place). number_in C.landings (carrying (Some k1) x) ≡ Some n) none num in
+          let num' : number_in C.landings (carrying (part_of C.locals o) (Some k1) []) ≡ Some n = subst (λ (x : List Place). number_in C.landings (carrying (part_of C.locals o) (Some k1) x) ≡ Some n) none num in
           absurd (cc)
       by_number (p ∷ own) k1 one (Some n) num le w h is g =
-          ok_landing C m locals off returns (length ls) n o (place_type p ∷ []) (map place_type own) (guard C i ((p ∷ own) ++ js)) (kind C i ((p ∷ own) ++ js)) ((p ∷ own) ++ js) (land_there ls (record { carried = Some (place_type p); places = own ++ js; kind = k1 }) n num) refl
+          ok_landing C m locals off returns (length ls) n o (place_type p ∷ []) (map place_type own) (guard C i ((p ∷ own) ++ js)) (kind C i ((p ∷ own) ++ js)) ((p ∷ own) ++ js) (land_there ls (record { carried = Some (place_type p); places = own ++ js; kind = k1; part = part_of C.locals o }) n num) refl
           (λ k y. guard_ok C m locals off returns (inside ls) z (map place_type (p ∷ own)) k ls i (risk_of i d) t a ((p ∷ own) ++ js) le w e h d y) g
 
-      by_kind : (own : List Place) (q : Option ℕ) → one_kind i ≡ q → length (own ++ js) ≤ C.slots → AllOwn C (own ++ js) → map place_type (take (takes i) (own ++ js)) ≡ a.takes → map place_type own ≡ a.takes ++ below → Ok (at (inside ls)) z (map place_type own) k → Ok (at (inside ls)) z (map place_type own) (checked (number_in C.landings (carrying q (own ++ js))) C (length ls) (own ++ js) o (guard C i (own ++ js)) (kind C i (own ++ js)) k)
+      by_kind : (own : List Place) (q : Option ℕ) → one_kind i ≡ q → length (own ++ js) ≤ C.slots → AllOwn C (own ++ js) → map place_type (take (takes i) (own ++ js)) ≡ a.takes → map place_type own ≡ a.takes ++ below → Ok (at (inside ls)) z (map place_type own) k → Ok (at (inside ls)) z (map place_type own) (checked (number_in C.landings (carrying (part_of C.locals o) q (own ++ js))) C (length ls) (own ++ js) o (guard C i (own ++ js)) (kind C i (own ++ js)) k)
       by_kind own None one le w h is g = in_place own le w h g
-      by_kind own (Some k1) one le w h is g = by_number own k1 one (number_in C.landings (carrying (Some k1) (own ++ js))) refl le w h is g
+      by_kind own (Some k1) one le w h is g = by_number own k1 one (number_in C.landings (carrying (part_of C.locals o) (Some k1) (own ++ js))) refl le w h is g
 
   label_there : (ls : List Info) (l : ℕ) (types : List ValType) → IsLabel (original C ls) l types → slice_get (inside ls) l ≡ Some types
   label_there ls l types e = get_front (map (λ i. option_to_list (carries i)) ls) (outside C.landings) l types e
@@ -382,7 +382,7 @@ module _ (C : Ctx) (m : Module) (locals : List ValType) (off : Offers C m locals
 
   after_ok : (ls : List Info) (z s : List ValType) (q : Bool) (r : Option ValType) (left : List Place) (o : ℕ) (rest : Nodes) → length left ≤ C.slots → AllOwn C left → FitsIn C r left → Ok (at (inside ls)) z (option_to_list r ++ s) (rewrite C (length ls) (grown r left) rest) → Ok (at (inside ls)) z (option_to_list r ++ s) (after_direct q C (length ls) r left o (λ es'. rewrite C (length ls) es' rest))
   after_ok ls z s true r left o rest le w fit k = ok_keep_result C m locals off returns s r left fit k
-  after_ok ls z s false r left o rest le w fit k = ok_keep_result C m locals off returns s r left fit (ok_test_flag C m locals off returns (length ls) left o le w (exit_there ls) (λ n is. land_there ls (landing_behind left) n is) k)
+  after_ok ls z s false r left o rest le w fit k = ok_keep_result C m locals off returns s r left fit (ok_test_flag C m locals off returns (length ls) left o le w (exit_there ls) (λ n is. land_there ls (landing_behind (part_of C.locals o) left) n is) k)
 
   -- what a call leaves, and its result
   pub record Called (type : FuncType) (own js : List Place) (rest : Nodes) (ls : List Info) (z below : List ValType) : Type 0 where
@@ -571,42 +571,42 @@ module _ (C : Ctx) where
   fine_unless None x xs f h = fine_end (nat_lt (length xs) most_landings) x xs f h
   fine_unless (Some n) x xs f h = h
 
-  fine_carrying : (q : Option ℕ) (es : List Place) (xs : List Landing) → length es ≤ C.slots → AllOwn C es → AllFine C xs → AllFine C (with_some (carrying q es) xs)
-  fine_carrying None es xs le w h = h
-  fine_carrying (Some k) [] xs le w h = h
-  fine_carrying (Some k) (e ∷ es) xs le w h = let x : Landing = record { carried = Some (place_type e); places = es; kind = k } in fine_unless (number_of x xs) x xs (omega (arith, le), w.1) h
+  fine_carrying : (p : ℕ) (q : Option ℕ) (es : List Place) (xs : List Landing) → length es ≤ C.slots → AllOwn C es → AllFine C xs → AllFine C (with_some (carrying p q es) xs)
+  fine_carrying p None es xs le w h = h
+  fine_carrying p (Some k) [] xs le w h = h
+  fine_carrying p (Some k) (e ∷ es) xs le w h = let x : Landing = record { carried = Some (place_type e); places = es; kind = k; part = p } in fine_unless (number_of x xs) x xs (omega (arith, le), w.1) h
 
-  fine_needed : (b : Bool) (i : Basic) (es : List Place) (xs : List Landing) → length es ≤ C.slots → AllOwn C es → AllFine C xs → AllFine C (with_some (needed b (landing_of i es)) xs)
-  fine_needed false i es xs le w h = h
-  fine_needed true i es xs le w h = fine_carrying (one_kind i) es xs le w h
+  fine_needed : (p : ℕ) (b : Bool) (i : Basic) (es : List Place) (xs : List Landing) → length es ≤ C.slots → AllOwn C es → AllFine C xs → AllFine C (with_some (needed b (landing_of p i es)) xs)
+  fine_needed p false i es xs le w h = h
+  fine_needed p true i es xs le w h = fine_carrying p (one_kind i) es xs le w h
 
-  fine_call : (b : Bool) (es : List Place) (xs : List Landing) → length es ≤ C.slots → AllOwn C es → AllFine C xs → AllFine C (landing_call b es xs)
-  fine_call true es xs le w h = h
-  fine_call false es xs le w h = fine_unless (number_of (landing_behind es) xs) (landing_behind es) xs (le, w) h
+  fine_call : (p : ℕ) (b : Bool) (es : List Place) (xs : List Landing) → length es ≤ C.slots → AllOwn C es → AllFine C xs → AllFine C (landing_call p b es xs)
+  fine_call p true es xs le w h = h
+  fine_call p false es xs le w h = fine_unless (number_of (landing_behind p es) xs) (landing_behind p es) xs (le, w) h
 
   abbrev Goes : Nodes → (List Place → List Landing → List Landing) → Type 0
   Goes rest go = (es' : List Place) (xs' : List Landing) → AllOwn C es' → Room C es' rest → AllFine C xs' → AllFine C (go es' xs')
 
-  fine_called : (b : Bool) (o : Option FuncType) (es : List Place) (xs : List Landing) (rest : Nodes) (go : List Place → List Landing → List Landing) → Goes rest go → length es ≤ C.slots → AllOwn C es → Room_call C o es (λ es'. Room C es' rest) → AllFine C xs → AllFine C (landings_call b o es xs go)
-  fine_called b None es xs rest go g le w rm h = h
-  fine_called b (Some type) es xs rest go g le w rm h =
+  fine_called : (p : ℕ) (b : Bool) (o : Option FuncType) (es : List Place) (xs : List Landing) (rest : Nodes) (go : List Place → List Landing → List Landing) → Goes rest go → length es ≤ C.slots → AllOwn C es → Room_call C o es (λ es'. Room C es' rest) → AllFine C xs → AllFine C (landings_call p b o es xs go)
+  fine_called p b None es xs rest go g le w rm h = h
+  fine_called p b (Some type) es xs rest go g le w rm h =
       let left = less (length type.params) es in
       let wl = own_less C (length type.params) es w in
-      g (grown (result_of type) left) (landing_call b left xs) (own_grown C (result_of type) left wl) rm.1 (fine_call b left xs (omega (arith, le, less_shorter (length type.params) es)) wl h)
+      g (grown (result_of type) left) (landing_call p b left xs) (own_grown C (result_of type) left wl) rm.1 (fine_call p b left xs (omega (arith, le, less_shorter (length type.params) es)) wl h)
 
-  fine_jump : (j : Jump) (es : List Place) (xs : List Landing) (rest : Nodes) (go : List Place → List Landing → List Landing) → Goes rest go → length es ≤ C.slots → AllOwn C es → Room_jump C j es (λ es'. Room C es' rest) → AllFine C xs → AllFine C (landings_jump C j es xs go)
-  fine_jump Unreachable es xs rest go g le w rm h = h
-  fine_jump (Br l) es xs rest go g le w rm h = h
-  fine_jump (BrIf l) es xs rest go g le w rm h = g (less 1 es) xs (own_less C 1 es w) rm h
-  fine_jump (BrTable ts d) es xs rest go g le w rm h = h
-  fine_jump Return es xs rest go g le w rm h = h
-  fine_jump (Call f) es xs rest go g le w rm h = fine_called (nat_lt f (import_count C.source)) (type_at C.source f) es xs rest go g le w rm h
-  fine_jump (CallIndirect t) es xs rest go g le w rm h = fine_called true (slice_get C.source.types t) (less 1 es) xs rest go g (omega (arith, le, less_shorter 1 es)) (own_less C 1 es w) rm.1 h
+  fine_jump : (p : ℕ) (j : Jump) (es : List Place) (xs : List Landing) (rest : Nodes) (go : List Place → List Landing → List Landing) → Goes rest go → length es ≤ C.slots → AllOwn C es → Room_jump C j es (λ es'. Room C es' rest) → AllFine C xs → AllFine C (landings_jump C p j es xs go)
+  fine_jump p Unreachable es xs rest go g le w rm h = h
+  fine_jump p (Br l) es xs rest go g le w rm h = h
+  fine_jump p (BrIf l) es xs rest go g le w rm h = g (less 1 es) xs (own_less C 1 es w) rm h
+  fine_jump p (BrTable ts d) es xs rest go g le w rm h = h
+  fine_jump p Return es xs rest go g le w rm h = h
+  fine_jump p (Call f) es xs rest go g le w rm h = fine_called p (nat_lt f (import_count C.source)) (type_at C.source f) es xs rest go g le w rm h
+  fine_jump p (CallIndirect t) es xs rest go g le w rm h = fine_called p true (slice_get C.source.types t) (less 1 es) xs rest go g (omega (arith, le, less_shorter 1 es)) (own_less C 1 es w) rm.1 h
 
   pub fine_landings : (es : List Place) (nodes : Nodes) (xs : List Landing) → AllOwn C es → Room C es nodes → AllFine C xs → AllFine C (landings_from C es nodes xs)
   fine_landings es stop xs w rm h = h
-  fine_landings es (basic o i rest) xs w rm h = fine_landings (after_plain C es i) rest (with_some (landing_at C o i es) xs) (own_after C i es w) rm.3 (fine_needed (needs C o i) i es xs rm.0 w h)
-  fine_landings es (jump o j rest) xs w rm h = fine_jump j es xs rest (λ es' xs'. landings_from C es' rest xs') (λ es' xs' w' rm' h'. fine_landings es' rest xs' w' rm' h') rm.0 w rm.1 h
+  fine_landings es (basic o i rest) xs w rm h = fine_landings (after_plain C es i) rest (with_some (landing_at C o i es) xs) (own_after C i es w) rm.3 (fine_needed (part_of C.locals o) (needs C o i) i es xs rm.0 w h)
+  fine_landings es (jump o j rest) xs w rm h = fine_jump (part_of C.locals o) j es xs rest (λ es' xs'. landings_from C es' rest xs') (λ es' xs' w' rm' h'. fine_landings es' rest xs' w' rm' h') rm.0 w rm.1 h
   fine_landings es (block o t inner end rest) xs w rm h =
       let wu = own_without C (λ x. true) es w in
       fine_landings (grown t (under es)) rest (landings_from C (under es) inner xs) (own_grown C t (under es) wu) rm.3 (fine_landings (under es) inner xs wu rm.1 h)
@@ -689,7 +689,7 @@ offers_landed C m locals os xs off =
 
 pub body_ok : (C : Ctx) (m : Module) (locals : List ValType) → Offers C m locals → (nodes : Nodes) → Room C [] nodes → Types (original C (in_body C.result ∷ [])) nodes [] (option_to_list C.result) → Types (rewritten C m locals) (body C nodes) [] (option_to_list C.result)
 body_ok C m locals off nodes rm ty =
-    let os = exposed_in nodes in
+    let os = exposed_in C.source.memories nodes in
     let C1 = landed C os [] in
     let xs = landings_from C1 [] nodes [] in
     laid_ok (landed C os xs) m locals (offers_landed C m locals os xs off) nodes (all_fine_landed C1 os xs xs (fine_landings C1 [] nodes [] tt (room_landed C os [] [] nodes rm) tt)) (room_landed C os xs [] nodes rm) ty

@@ -1,5 +1,5 @@
 -- The small pieces of rewritten code are well typed.
-use Rattle.rewrite_bodies.specs.calls.Landings.{number_of, landing_behind}
+use Rattle.rewrite_bodies.specs.calls.Landings.{number_of, landing_behind, part_of}
 use Rattle.std.proofs.Common.{◌≡◌, ℕ, zero, suc, ◌+◌, ◌≤◌, List, [], ◌∷◌, ◌++◌, length, map, reverse, Option, Some, None, refl, sym, ap, ◌∙◌, subst, arith, slice_get, option_map, option_to_list, Bool, true, false, if◌then◌else◌}
 use Rattle.std.specs.Prelude.{take}
 use Rattle.wasm_syntax.specs.declared.value.ValType.{ValType}
@@ -184,10 +184,10 @@ module _ (C : Ctx) (m : Module) (locals : List ValType) (off : Offers C m locals
   ok_landing {k = k} d n o c below test says_kind es at_ is tests h =
       ok_const (i32 o) (ok_set (offset_at C) I32 (added_offset C.slots) (tests (jump 0 (BrIf (d + n)) k) (ok_branch_if (d + n) c below at_ is h)))
 
-  pub ok_test_flag : {labels : List (List ValType)} {z s : List ValType} {k : Nodes} (d : ℕ) (es : List Place) (o : ℕ) → length es ≤ C.slots → AllOwn C es → IsExit (d + length C.landings) labels → ((n : ℕ) → number_of (landing_behind es) C.landings ≡ Some n → slice_get labels (d + n) ≡ Some []) → Ok (at labels) z s k → Ok (at labels) z s (test_flag C d es o k)
-  ok_test_flag {labels = labels} {z = z} {s = s} {k = k} d es o le w x lands h = by_number (number_of (landing_behind es) C.landings) refl
+  pub ok_test_flag : {labels : List (List ValType)} {z s : List ValType} {k : Nodes} (d : ℕ) (es : List Place) (o : ℕ) → length es ≤ C.slots → AllOwn C es → IsExit (d + length C.landings) labels → ((n : ℕ) → number_of (landing_behind (part_of C.locals o) es) C.landings ≡ Some n → slice_get labels (d + n) ≡ Some []) → Ok (at labels) z s k → Ok (at labels) z s (test_flag C d es o k)
+  ok_test_flag {labels = labels} {z = z} {s = s} {k = k} d es o le w x lands h = by_number (number_of (landing_behind (part_of C.locals o) es) C.landings) refl
     where
-      by_number : (q : Option ℕ) → number_of (landing_behind es) C.landings ≡ q → Ok (at labels) z s (checked q C d es o (get_flag C) (const (i32 0)) k)
+      by_number : (q : Option ℕ) → number_of (landing_behind (part_of C.locals o) es) C.landings ≡ q → Ok (at labels) z s (checked q C d es o (get_flag C) (const (i32 0)) k)
       by_number None is = ok_flag (ok_if (ok_const (i32 0) (ok_set (kind_at C) I32 (added_kind C.slots) (ok_unwind d es o le w x))) h)
       by_number (Some n) is = ok_landing d n o [] s (get_flag C) (const (i32 0)) es (lands n is) refl (λ k g. ok_flag g) h
 

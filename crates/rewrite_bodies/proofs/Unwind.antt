@@ -27,7 +27,7 @@ use Rattle.rewrite_bodies.specs.calls.Telling.{tell_ops, tell_labels, tell_local
 use Rattle.rewrite_bodies.proofs.Sim.{room_height, grown_fits, len_of, shell, wit, wit_under, armed, if_zero_to, if_up_to}
 use Rattle.rewrite_bodies.proofs.Control.{top_exact, flag_len, get_last, grown_longer, flag_to, both_to}
 use Rattle.rewrite_bodies.proofs.Landed.{exit_branch, land_branch, mark_to}
-use Rattle.rewrite_bodies.specs.calls.Landings.{number_of, landing_behind}
+use Rattle.rewrite_bodies.specs.calls.Landings.{number_of, landing_behind, part_of}
 use Rattle.wasm_syntax.proofs.Types.{same_type_is}
 use Rattle.rewrite_bodies.specs.calls.Standing.{Speaks}
 use Rattle.wasm_laws.proofs.Progress.{same_of}
@@ -262,7 +262,7 @@ module _ (M M' : Engine) (E : ℕ) (gl : List ValType) (W : Wrap) (sp : Speaks M
 
   -- the flag is up behind a call: the frame is left, by way of a landing or in place
   tested_out : (C : Ctx) (l : List Value) (lt : types l ≡ C.locals) (ex : List Value) (L : Label) (Ls : List Label) (e : List Place) (ss : List (List Place)) (FR : List Frame) (g : World) (co : List CollectorCall) (o : ℕ) (s : List Value) (k : Nodes) (a : Option ValType) (sp_ : Speaks M' C.source) → FitsLabels C l ex a (L ∷ Ls) (e ∷ ss) → types ex ≡ added C.slots → types g.globals ≡ global_types C.source → length (e ++ joined ss) ≤ C.slots → Gets M' 1 (2 * C.slots + 2 * length C.locals + 40) (st (record { idx = mapped C.source C.index; result = C.result; kind = t_kind C (length Ls) (joined ss) L.kind; below = t_labels C (pending L.kind) Ls ss; frames = FR }) (l ++ ex) s (test_flag C (suc (length Ls)) (e ++ joined ss) o k) (flagged M g (values.I32 1)) co) (deliver M' (zero_vs C.result) FR (flagged M g (values.I32 1)) (collector_calls.Frame 0 C.index o (length C.locals) ∷ tell_locals l (tell_labels (L ∷ Ls) co)))
-  tested_out C l lt ex L Ls e ss FR g co o s k a sp_ h room gt low = by_number (number_of (landing_behind (e ++ joined ss)) C.landings) refl
+  tested_out C l lt ex L Ls e ss FR g co o s k a sp_ h room gt low = by_number (number_of (landing_behind (part_of C.locals o) (e ++ joined ss)) C.landings) refl
     where
       es : List Place
       es = e ++ joined ss
@@ -270,7 +270,7 @@ module _ (M M' : Engine) (E : ℕ) (gl : List ValType) (W : Wrap) (sp : Speaks M
       ls : ℕ
       ls = suc (length Ls)
 
-      by_number : (q : Option ℕ) → number_of (landing_behind (e ++ joined ss)) C.landings ≡ q → Gets M' 1 (2 * C.slots + 2 * length C.locals + 40) (st (record { idx = mapped C.source C.index; result = C.result; kind = t_kind C (length Ls) (joined ss) L.kind; below = t_labels C (pending L.kind) Ls ss; frames = FR }) (l ++ ex) s (checked q C (suc (length Ls)) (e ++ joined ss) o (get_flag C) (const (values.I32 0)) k) (flagged M g (values.I32 1)) co) (deliver M' (zero_vs C.result) FR (flagged M g (values.I32 1)) (collector_calls.Frame 0 C.index o (length C.locals) ∷ tell_locals l (tell_labels (L ∷ Ls) co)))
+      by_number : (q : Option ℕ) → number_of (landing_behind (part_of C.locals o) (e ++ joined ss)) C.landings ≡ q → Gets M' 1 (2 * C.slots + 2 * length C.locals + 40) (st (record { idx = mapped C.source C.index; result = C.result; kind = t_kind C (length Ls) (joined ss) L.kind; below = t_labels C (pending L.kind) Ls ss; frames = FR }) (l ++ ex) s (checked q C (suc (length Ls)) (e ++ joined ss) o (get_flag C) (const (values.I32 0)) k) (flagged M g (values.I32 1)) co) (deliver M' (zero_vs C.result) FR (flagged M g (values.I32 1)) (collector_calls.Frame 0 C.index o (length C.locals) ∷ tell_locals l (tell_labels (L ∷ Ls) co)))
       by_number None is =
           let size = len_of l C.locals lt in
           let X : Shell = record { idx = mapped C.source C.index; result = C.result; kind = t_kind C (length Ls) (joined ss) L.kind; below = t_labels C (pending L.kind) Ls ss; frames = FR } in
@@ -297,7 +297,7 @@ module _ (M M' : Engine) (E : ℕ) (gl : List ValType) (W : Wrap) (sp : Speaks M
           let X : Shell = record { idx = mapped C.source C.index; result = C.result; kind = t_kind C (length Ls) (joined ss) L.kind; below = t_labels C (pending L.kind) Ls ss; frames = FR } in
           let fl = flag_len C g gt in
           let g1 = flagged M g (values.I32 1) in
-          let x = landing_behind (e ++ joined ss) in
+          let x = landing_behind (part_of C.locals o) (e ++ joined ss) in
           let exm = slice_set ex (offset_at C) (values.I32 o) in
           let at : slice_get (types ex) (offset_at C) ≡ Some I32 = rw room (added_offset C.slots) in
           let roomm : types exm ≡ added C.slots = types-slice_set ex (offset_at C) I32 (values.I32 o) at refl ∙ room in

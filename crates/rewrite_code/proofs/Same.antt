@@ -33,17 +33,17 @@ none_before x xs = by_number (number_of x xs)
 
 -- ---- the landing of a guard, and that behind a call
 
-pub made_behind : (ops : List OperandPlace) (es : List Place) (m left : ℕ) → from_top ops ≡ es → left ≡ length ops - m → made_landing None (take left ops) 0 ≡ landing_behind (less m es)
-made_behind ops es m left e l = ap landing_behind (ap (λ n. from_top (take n ops)) l ∙ discarded ops m ∙ ap (less m) e)
+pub made_behind : (p : ℕ) (ops : List OperandPlace) (es : List Place) (m left : ℕ) → from_top ops ≡ es → left ≡ length ops - m → made_landing None (take left ops) 0 p ≡ landing_behind p (less m es)
+made_behind p ops es m left e l = ap (landing_behind p) (ap (λ n. from_top (take n ops)) l ∙ discarded ops m ∙ ap (less m) e)
 
-pub made_carrying : (i : Basic) (ops : List OperandPlace) (es : List Place) (k : ℕ) (top : OperandPlace) (t : ValType) (left : ℕ) → from_top ops ≡ es → one_kind i ≡ Some k → Some (place top) ≡ slice_get es 0 → t ≡ place_type (place top) → left ≡ length ops - 1 → landing_of i es ≡ Some (made_landing (Some t) (take left ops) k)
-made_carrying i ops es k top t left e one is ty l =
+pub made_carrying : (p : ℕ) (i : Basic) (ops : List OperandPlace) (es : List Place) (k : ℕ) (top : OperandPlace) (t : ValType) (left : ℕ) → from_top ops ≡ es → one_kind i ≡ Some k → Some (place top) ≡ slice_get es 0 → t ≡ place_type (place top) → left ≡ length ops - 1 → landing_of p i es ≡ Some (made_landing (Some t) (take left ops) k p)
+made_carrying p i ops es k top t left e one is ty l =
     let under : from_top (take left ops) ≡ less 1 es = ap (λ n. from_top (take n ops)) l ∙ discarded ops 1 ∙ ap (less 1) e in
-    ap (λ q. carrying q es) one ∙ by_places es under is
+    ap (λ q. carrying p q es) one ∙ by_places es under is
   where
-    by_places : (es : List Place) → from_top (take left ops) ≡ less 1 es → Some (place top) ≡ slice_get es 0 → carrying (Some k) es ≡ Some (made_landing (Some t) (take left ops) k)
+    by_places : (es : List Place) → from_top (take left ops) ≡ less 1 es → Some (place top) ≡ slice_get es 0 → carrying p (Some k) es ≡ Some (made_landing (Some t) (take left ops) k p)
     by_places [] under is = absurd (cc)
-    by_places (p ∷ ps) under is =
-        let same : p ≡ place top = sym (ap (λ o. unwrap_or o p) is) in
-        let types : place_type p ≡ t = ap place_type same ∙ sym ty in
-        λ i. Some (record { carried = Some (types i); places = sym under i; kind = k })
+    by_places (x ∷ xs) under is =
+        let same : x ≡ place top = sym (ap (λ o. unwrap_or o x) is) in
+        let types : place_type x ≡ t = ap place_type same ∙ sym ty in
+        λ i. Some (record { carried = Some (types i); places = sym under i; kind = k; part = p })

@@ -1,11 +1,15 @@
 //! The landings of a function: places behind its body at which its frame is handed over, one for each
-//! list of operands and kind of trap.
+//! list of operands, kind of trap, and part of the body.
 
 ghost use Rattle.std.specs.Prelude.{◌≡◌, ◌+◌, ◌*◌, ◌^◌, ◌<◌, ◌≤◌, [], List, map, length, reverse, IfOk, IfSome, OnOk};
 ghost use Rattle.wasm_syntax.specs.Machine.{same_result};
 ghost use Rattle.wasm_syntax.specs.Numbers.{same_type};
 ghost use Rattle.rewrite_bodies.specs.calls.Slots.{Landing as LandingOf, Copied as CopiedOf, less};
-ghost use Rattle.rewrite_bodies.specs.calls.Landings.{same_value, same_place, same_places, same_landing, number_of, division_kind, one_kind, carrying, landing_of, landing_behind, number_in, most_landings, with_landing, with_some};
+ghost use Rattle.rewrite_bodies.specs.calls.Landings.{same_value, same_place, same_places};
+ghost use Rattle.rewrite_bodies.specs.calls.Landings.{same_landing, number_of, part_of, division_kind};
+ghost use Rattle.rewrite_bodies.specs.calls.Landings.{one_kind, carrying, landing_of};
+ghost use Rattle.rewrite_bodies.specs.calls.Landings.{landing_behind, number_in, most_landings};
+ghost use Rattle.rewrite_bodies.specs.calls.Landings.{with_landing, with_some};
 ghost use Rattle.rewrite_code.specs.calls.Places.{place, from_top};
 ghost use Rattle.rewrite_code.specs.calls.KeptLandings.{landing, made_landing};
 
@@ -20,13 +24,32 @@ use wasm_syntax::{Basic, Binary, ValType, Value};
 /// decoder's limit of nesting.
 const MOST: usize = 20;
 
-/// The types of the topmost operand, where it comes with the branch, the places of the others, and
-/// the kind of the trap.
+/// The fewest locals of a function whose body has parts.
+const MANY_LOCALS: usize = 1024;
+
+/// The last part of a body.
+const LAST_PART: usize = 15;
+
+/// The types of the topmost operand, where it comes with the branch, the places of the others, the
+/// kind of the trap, and the part of the body that the branch comes from.
 #[derive(Drop)]
 pub struct Landing {
     pub carried: Option<ValType>,
     pub places: OperandPlaces,
     pub kind: u32,
+    pub part: u32,
+}
+
+/// The part of a body that an offset is in, where the function has these locals, with its
+/// parameters. Each part takes as many bytes as there are locals, and the last one the rest.
+pub fn part_of(locals: &[ValType], offset: u32) -> u32
+    ensures { result ≡ part_of locals.now offset }
+{
+    if locals.len() < MANY_LOCALS {
+        return 0;
+    }
+    let part = offset as usize / locals.len();
+    LAST_PART.min(part) as u32
 }
 
 fn same_result(a: Option<ValType>, b: Option<ValType>) -> bool
@@ -101,12 +124,20 @@ fn same_places(a: &[OperandPlace], b: &[OperandPlace]) -> bool
     true
 }
 
-/// Whether a landing is for these operands, with the topmost last, and this kind.
-fn is_for(found: &Landing, carried: Option<ValType>, operands: &[OperandPlace], kind: u32) -> bool
-    ensures { result ≡ same_landing (made_landing carried operands.now kind) (landing found.now) }
+/// Whether a landing is for these operands, with the topmost last, this kind, and this part.
+fn is_for(
+    found: &Landing,
+    carried: Option<ValType>,
+    operands: &[OperandPlace],
+    kind: u32,
+    part: u32,
+) -> bool
+    ensures { result
+        ≡ same_landing (made_landing carried operands.now kind part) (landing found.now) }
 {
     same_result(carried, found.carried)
         && kind == found.kind
+        && part == found.part
         && same_places(operands, found.places.as_slice())
 }
 
@@ -116,14 +147,15 @@ fn number_of(
     carried: Option<ValType>,
     operands: &[OperandPlace],
     kind: u32,
+    part: u32,
 ) -> Option<u32>
     requires { length landings.now ≤ most_landings }
     ensures few { IfSome result (λ number. number < most_landings) }
-    ensures number { result ≡ number_of (made_landing carried operands.now kind)
+    ensures number { result ≡ number_of (made_landing carried operands.now kind part)
         (map landing landings.now) }
 {
     for number in 0..landings.len() {
-        if is_for(&landings[number], carried, operands, kind) {
+        if is_for(&landings[number], carried, operands, kind, part) {
             return Some(number as u32);
         }
     }
@@ -209,17 +241,18 @@ impl Landings {
         self.items.len() as u32
     }
 
-    /// One more for these operands and this kind, where there is none yet, and room.
+    /// One more for these operands, this kind, and this part, where there is none yet, and room.
     fn note(
         &mut self,
         carried: Option<ValType>,
         operands: &[OperandPlace],
         kind: u32,
+        part: u32,
     ) -> Result<(), NoMemory>
         ensures { OnOk result (self.new
-            ≡ with_landing (made_landing carried operands.now kind) self.old) }
+            ≡ with_landing (made_landing carried operands.now kind part) self.old) }
     {
-        if number_of(self.items.as_slice(), carried, operands, kind).is_some() {
+        if number_of(self.items.as_slice(), carried, operands, kind, part).is_some() {
             return Ok(());
         }
         if self.items.len() < MOST {
@@ -228,18 +261,20 @@ impl Landings {
                 carried,
                 places,
                 kind,
+                part,
             })?;
         }
         Ok(())
     }
 
-    /// The landing of an instruction on these operands, if it has one.
+    /// The landing of an instruction in this part on these operands, if it has one.
     pub fn note_guard(
         &mut self,
+        part: u32,
         instruction: &Basic,
         places: &OperandPlaces,
     ) -> Result<(), NoMemory>
-        ensures { OnOk result (self.new ≡ with_some (landing_of instruction.now places.now)
+        ensures { OnOk result (self.new ≡ with_some (landing_of part instruction.now places.now)
             self.old) }
     {
         let Some(kind) = one_kind(instruction) else {
@@ -253,25 +288,36 @@ impl Landings {
             Some(top.value_type()),
             &operands[..operands.len() - 1],
             kind,
+            part,
         )
     }
 
-    /// The landing behind a call that takes so many of these operands.
-    pub fn note_call(&mut self, places: &OperandPlaces, taken: usize) -> Result<(), NoMemory>
-        ensures { OnOk result (self.new ≡ with_landing (landing_behind (less taken places.now))
-            self.old) }
+    /// The landing behind a call in this part that takes so many of these operands.
+    pub fn note_call(
+        &mut self,
+        part: u32,
+        places: &OperandPlaces,
+        taken: usize,
+    ) -> Result<(), NoMemory>
+        ensures { OnOk result (self.new
+            ≡ with_landing (landing_behind part (less taken places.now)) self.old) }
     {
         let operands = places.as_slice();
         let left = operands.len().saturating_sub(taken);
-        self.note(None, &operands[..left], 0)
+        self.note(None, &operands[..left], 0, part)
     }
 }
 
 impl<'m, 'a> FunctionContext<'m, 'a> {
-    /// The number of the landing of an instruction on these operands.
-    pub fn landing_of(&self, instruction: &Basic, places: &OperandPlaces) -> Option<u32>
+    /// The number of the landing of an instruction at an offset on these operands.
+    pub fn landing_of(
+        &self,
+        offset: u32,
+        instruction: &Basic,
+        places: &OperandPlaces,
+    ) -> Option<u32>
         ensures number { result ≡ number_in self.now.landings
-            (landing_of instruction.now places.now) }
+            (landing_of (part_of self.now.locals offset) instruction.now places.now) }
         ensures few { IfSome result (λ number. number < most_landings) }
     {
         let Some(kind) = one_kind(instruction) else {
@@ -286,17 +332,25 @@ impl<'m, 'a> FunctionContext<'m, 'a> {
             Some(top.value_type()),
             &operands[..operands.len() - 1],
             kind,
+            part_of(self.locals(), offset),
         )
     }
 
-    /// The number of the landing behind a call that took so many of these operands.
-    pub fn landing_behind(&self, places: &OperandPlaces, taken: usize) -> Option<u32>
-        ensures number { result
-            ≡ number_of (landing_behind (less taken places.now)) self.now.landings }
+    /// The number of the landing behind a call at an offset that took so many of these operands.
+    pub fn landing_behind(&self, offset: u32, places: &OperandPlaces, taken: usize) -> Option<u32>
+        ensures number { result ≡ number_of
+            (landing_behind (part_of self.now.locals offset) (less taken places.now))
+            self.now.landings }
         ensures few { IfSome result (λ number. number < most_landings) }
     {
         let operands = places.as_slice();
         let left = operands.len().saturating_sub(taken);
-        number_of(self.landings(), None, &operands[..left], 0)
+        number_of(
+            self.landings(),
+            None,
+            &operands[..left],
+            0,
+            part_of(self.locals(), offset),
+        )
     }
 }

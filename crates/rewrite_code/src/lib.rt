@@ -9,12 +9,14 @@ pub mod laws;
 mod moves;
 mod offsets;
 mod place;
+mod trapping;
 mod unwinding;
 mod writer;
 
 pub use context::FunctionContext;
-pub use landing::{Landing, Landings};
+pub use landing::{Landing, Landings, part_of};
 pub use moves::drops;
 pub use offsets::Offsets;
 pub use place::{OperandPlace, OperandPlaces, slot};
+pub use trapping::can_trap;
 pub use writer::CodeWriter;

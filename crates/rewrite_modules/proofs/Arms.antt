@@ -1,5 +1,5 @@
 -- An `if` without `else` has an empty second arm, in rewritten code too.
-use Rattle.rewrite_bodies.specs.calls.Landings.{number_of, number_in, landing_of, landing_behind, with_landings}
+use Rattle.rewrite_bodies.specs.calls.Landings.{number_of, number_in, landing_of, landing_behind, with_landings, part_of}
 use Rattle.std.proofs.Common.{◌≡◌, ℕ, zero, suc, ◌+◌, List, [], ◌∷◌, length, Option, Some, None, Bool, true, false, nat_lt, if◌then◌else◌, ◌==◌, refl, ap, slice_get, option_map, ◌/◌}
 use Rattle.wasm_syntax.specs.declared.value.ValType.{ValType}
 use Rattle.wasm_syntax.specs.declared.instruction.Basic.{Basic}
@@ -87,7 +87,7 @@ module _ (C : Ctx) where
   tree_checked (Some n) ls es o test says_kind k tests says tk = tests (jump 0 (BrIf (ls + n)) k) tk
 
   tree_flag : (ls : ℕ) (es : List Place) (o : ℕ) (k : Nodes) → IsTree k → IsTree (test_flag C ls es o k)
-  tree_flag ls es o k tk = tree_checked (number_of (landing_behind es) C.landings) ls es o (get_flag C) (const (i32 0)) k (λ k w. w) (λ arm w. w) tk
+  tree_flag ls es o k tk = tree_checked (number_of (landing_behind (part_of C.locals o) es) C.landings) ls es o (get_flag C) (const (i32 0)) k (λ k w. w) (λ arm w. w) tk
 
   -- ---- guards
 
@@ -159,7 +159,7 @@ module _ (C : Ctx) where
   tree_guarded : (q : Bool) (ls : ℕ) (es : List Place) (o : ℕ) (i : Basic) (k : Nodes) → (q ≡ true → can_trap i ≡ true) → IsTree k → IsTree (guarded q C ls es o i k)
   tree_guarded false ls es o i k t tk = tk
   tree_guarded true ls es o i k t tk =
-      tree_checked (number_in C.landings (landing_of i es)) ls es o (guard C i es) (kind C i es) k (λ k w. tree_guard i (risk_of i (t refl)) es k w) (λ arm w. tree_kind i (risk_of i (t refl)) es arm w) tk
+      tree_checked (number_in C.landings (landing_of (part_of C.locals o) i es)) ls es o (guard C i es) (kind C i es) k (λ k w. tree_guard i (risk_of i (t refl)) es k w) (λ arm w. tree_kind i (risk_of i (t refl)) es arm w) tk
 
   -- ---- instructions
 

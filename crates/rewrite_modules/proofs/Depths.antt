@@ -1,6 +1,6 @@
 -- How deep blocks are nested in rewritten code.
 use Rattle.rewrite_bodies.proofs.Laid.{few_landings}
-use Rattle.rewrite_bodies.specs.calls.Landings.{number_of, number_in, landing_of, landing_behind, with_landings, landed}
+use Rattle.rewrite_bodies.specs.calls.Landings.{number_of, number_in, landing_of, landing_behind, with_landings, landed, part_of}
 use Rattle.std.proofs.Common.{◌≡◌, ℕ, zero, suc, ◌+◌, List, [], ◌∷◌, length, Option, Some, None, Bool, true, false, nat_lt, if◌then◌else◌, ◌==◌, refl, ap, slice_get, option_map, ◌/◌, ◌-◌, ◌≤◌, max, map, ◌∙◌, arith, subst}
 use Rattle.wasm_syntax.specs.declared.value.ValType.{ValType}
 use Rattle.wasm_syntax.specs.declared.instruction.Basic.{Basic}
@@ -227,7 +227,7 @@ module _ (C : Ctx) where
   low_checked d (Some n) ls es o test says_kind k tests says tk = tests (jump 0 (BrIf (ls + n)) k) tk
 
   low_flag : (d : ℕ) (ls : ℕ) (es : List Place) (o : ℕ) (k : Nodes) → Low (suc (suc d)) k → Low (suc (suc d)) (test_flag C ls es o k)
-  low_flag d ls es o k tk = low_checked d (number_of (landing_behind es) C.landings) ls es o (get_flag C) (const (i32 0)) k (λ k w. w) (λ arm w. w) tk
+  low_flag d ls es o k tk = low_checked d (number_of (landing_behind (part_of C.locals o) es) C.landings) ls es o (get_flag C) (const (i32 0)) k (λ k w. w) (λ arm w. w) tk
 
   -- ---- guards
 
@@ -299,7 +299,7 @@ module _ (C : Ctx) where
   low_guarded : (d : ℕ) (q : Bool) (ls : ℕ) (es : List Place) (o : ℕ) (i : Basic) (k : Nodes) → (q ≡ true → can_trap i ≡ true) → Low (suc (suc d)) k → Low (suc (suc d)) (guarded q C ls es o i k)
   low_guarded d false ls es o i k t tk = tk
   low_guarded d true ls es o i k t tk =
-      low_checked d (number_in C.landings (landing_of i es)) ls es o (guard C i es) (kind C i es) k (λ k w. low_guard (suc (suc d)) i (risk_of i (t refl)) es k w) (λ arm w. low_kind (suc d) i (risk_of i (t refl)) es arm w) tk
+      low_checked d (number_in C.landings (landing_of (part_of C.locals o) i es)) ls es o (guard C i es) (kind C i es) k (λ k w. low_guard (suc (suc d)) i (risk_of i (t refl)) es k w) (λ arm w. low_kind (suc d) i (risk_of i (t refl)) es arm w) tk
 
   -- ---- instructions
 
@@ -441,7 +441,7 @@ low_more (choose at t x ea y end rest) (suc a) (suc b) le h = (low_more x a b (o
 pub low_body : (C : Ctx) (d : ℕ) (nodes : Nodes) → Low d nodes → Low (24 + d) (body C nodes)
 low_body C d nodes h =
     let D = with_landings C nodes in
-    let few = few_landings (landed C (exposed_in nodes) []) [] nodes [] (omega arith) in
+    let few = few_landings (landed C (exposed_in C.source.memories nodes) []) [] nodes [] (omega arith) in
     low_more (body C nodes) (suc (length D.landings + suc (suc (suc d)))) (24 + d) (omega (arith, few)) (low_laid D d nodes h)
 
 -- ---- wrappers and helpers

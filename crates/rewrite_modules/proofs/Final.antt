@@ -19,6 +19,7 @@ use Rattle.rewrite_bodies.specs.calls.Guards.{first_table}
 use Rattle.rewrite_bodies.specs.Numbering.{is_in, element_functions, mapped, global_types, wrapped, wrapper_base}
 use Rattle.rewrite_bodies.specs.calls.Pieces.{call, tree_of}
 use Rattle.std.proofs.lemmas.List.{length-map}
+use Rattle.rewrite_bodies.specs.calls.Known.{HasLeast}
 use Rattle.rewrite_bodies.specs.calls.Agreement.{Wit, MemoryFits, WorldFits, FitsTop, FitsConfig, Wrap, flagged}
 use Rattle.rewrite_bodies.specs.calls.Telling.{collected}
 use Rattle.rewrite_bodies.proofs.Sim.{len_of}
@@ -46,6 +47,7 @@ pub record Fits (p : Program) : Type 0 where
   pub ready : Ready p
   pub globals : types (globals_at_start p.module_) ≡ global_types p.module_
   pub memory : cause_of_segments p.module_ ≡ None → MemoryFits (start_memory p.module_)
+  pub least : cause_of_segments p.module_ ≡ None → HasLeast p.module_.memories (start_memory p.module_)
   pub table : cause_of_segments p.module_ ≡ None → start_table p.module_ ≡ first_table p.module_
   pub exported : (name : List ℕ) (f : ℕ) → function_export p.module_ name ≡ Some f → (type : FuncType) × (type_at p.module_ f ≡ Some type)
   pub listed : (f : ℕ) → is_in f (element_functions p.module_) ≡ true → (type : FuncType) × (type_at p.module_ f ≡ Some type)
@@ -293,7 +295,7 @@ module _ (p : Program) (fit : Fits p) (d : ℕ) (deep : 0 < d) (low : d ≤ 1000
   -- ---- whole runs
 
   pub start_fits : (replies : List Reply) → cause_of_segments m ≡ None → WorldFits M gl (start_world m replies)
-  start_fits replies e = record { globals = fit.globals; memory = fit.memory e; table = fit.table e }
+  start_fits replies e = record { globals = fit.globals; memory = fit.memory e; least = fit.least e; table = fit.table e }
 
   pub out_type : (f f' : ℕ) (type : FuncType) → Outside m f f' → type_at m f ≡ Some type → type_at (new_module p) f' ≡ Some type
   out_type f f' type (inl o) tf = let z : mapped m f ≡ f' = rw (o.1, o.0) refl in subst (λ q. type_at (new_module p) q ≡ Some type) z (function_type_kept p fit.ready f type tf)

@@ -85,7 +85,7 @@ module _ (p : Program) (fit : Fits p) (d : ℕ) (deep : 0 < d) (low : d ≤ 1000
     pub fits : WorldFits M gl (fresh r.last w)
 
   fresh_fits : (c : Config) (w : World) → WorldFits M gl c.world → WorldFits M gl (fresh (Some c) w)
-  fresh_fits c w h = record { globals = h.globals; memory = h.memory; table = h.table }
+  fresh_fits c w h = record { globals = h.globals; memory = h.memory; least = h.least; table = h.table }
 
   fresh_of : World → World
   fresh_of w = record { globals = w.globals; memory = w.memory; table = w.table; replies = w.replies; served = [] }

@@ -1,6 +1,6 @@
 -- Rewritten bodies, wrappers and helpers hold few operands.
 use Rattle.rewrite_bodies.proofs.Laid.{room_landed}
-use Rattle.rewrite_bodies.specs.calls.Landings.{number_of, number_in, landing_of, landing_behind, landings_from, landed}
+use Rattle.rewrite_bodies.specs.calls.Landings.{number_of, number_in, landing_of, landing_behind, landings_from, landed, part_of}
 use Rattle.std.proofs.Common.{◌≡◌, ℕ, zero, suc, ◌+◌, ◌*◌, ◌-◌, ◌/◌, ◌≤◌, nat_lt, if◌then◌else◌, ◌==◌, Bool, true, false, List, [], ◌∷◌, ◌++◌, length, length-append, map, reverse, Option, Some, None, refl, sym, ap, ◌∙◌, subst, arith, slice_get, option_map, option_to_list}
 use Rattle.std.proofs.lemmas.List.{length-reverse, length-map}
 use Rattle.int_ops.specs.declared.operators.Binary.{Binary as BinaryOp}
@@ -154,7 +154,7 @@ module _ (C : Ctx) (m : Module) (locals : List ValType) (off : Offers C m locals
   u_get_flag b k le u = u_basic b (GlobalGet (flag_of C.source)) (suc b) k (omega (arith, le)) (omega arith) u
 
   u_flag : (b d : ℕ) (es : List Place) (o : ℕ) (k : Nodes) → suc b ≤ N → U b k → U b (test_flag C d es o k)
-  u_flag b d es o k le u = u_checked b d es o (number_of (landing_behind es) C.landings) (get_flag C) (const (i32 0)) k le (λ k w. u_get_flag b k le w) (λ arm w. u_const b (i32 0) arm (omega (arith, le)) w) u
+  u_flag b d es o k le u = u_checked b d es o (number_of (landing_behind (part_of C.locals o) es) C.landings) (get_flag C) (const (i32 0)) k le (λ k w. u_get_flag b k le w) (λ arm w. u_const b (i32 0) arm (omega (arith, le)) w) u
 
   u_both : (b d : ℕ) (es : List Place) (o : ℕ) (others k : Nodes) → Roomy b → U b others → U b k → U b (test_both C d es o others k)
   u_both b d es o others k r uo u =
@@ -289,7 +289,7 @@ module _ (C : Ctx) (m : Module) (locals : List ValType) (off : Offers C m locals
   u_guarded : (b : ℕ) → Roomy b → (q : Bool) (d : ℕ) (es : List Place) (o : ℕ) (i : Basic) (k : Nodes) → (q ≡ true → can_trap i ≡ true) → U b k → U b (guarded q C d es o i k)
   u_guarded b r false d es o i k t u = u
   u_guarded b r true d es o i k t u =
-      u_checked b d es o (number_in C.landings (landing_of i es)) (guard C i es) (kind C i es) k (omega (arith, r)) (λ k w. u_guard b r i (risk_of i (t refl)) es k w) (λ arm w. u_kind b r i (risk_of i (t refl)) es arm w) u
+      u_checked b d es o (number_in C.landings (landing_of (part_of C.locals o) i es)) (guard C i es) (kind C i es) k (omega (arith, r)) (λ k w. u_guard b r i (risk_of i (t refl)) es k w) (λ arm w. u_kind b r i (risk_of i (t refl)) es arm w) u
 
   -- ---- instructions
 
@@ -571,7 +571,7 @@ module _ (C : Ctx) (m : Module) (locals : List ValType) (off : Offers C m locals
 
 pub u_body : (C : Ctx) (m : Module) (locals : List ValType) → Offers C m locals → (N : ℕ) → 2 * C.slots + 16 ≤ N → (nodes : Nodes) → Room C [] nodes → Types (original C (in_body C.result ∷ [])) nodes [] (option_to_list C.result) → Under m N 0 (body C nodes)
 u_body C m locals off N room nodes rm ty =
-    let os = exposed_in nodes in
+    let os = exposed_in C.source.memories nodes in
     let xs = landings_from (landed C os []) [] nodes [] in
     u_laid (landed C os xs) m locals (offers_landed C m locals os xs off) N room nodes (room_landed C os xs [] nodes rm) ty
 

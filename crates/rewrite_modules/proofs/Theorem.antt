@@ -12,6 +12,7 @@ use Rattle.linear_memory.specs.Memory.{Memory}
 use Rattle.std.proofs.lemmas.List.{length-map, length-replicate}
 use Rattle.wasm_syntax.specs.declared.parts.ElementSeg.{ElementSeg}
 use Rattle.rewrite_bodies.specs.calls.Agreement.{Has, MemoryFits, WorldFits}
+use Rattle.rewrite_bodies.specs.calls.Known.{HasLeast}
 use Rattle.std.proofs.lemmas.Bool.{eqb-true, eq-eqb}
 use Rattle.std.specs.Prelude.{flat_map, fold, min}
 use Rattle.rewrite_modules.specs.calls.Instrument.{instrument, new_module}
@@ -138,14 +139,27 @@ module _ (m : Module) where
   abbrev start_of : Option Memory → Option Memory
   start_of o = option_map (λ memory. fold (λ k s. record k { bytes = runs_.over k.bytes (data_at m s) s.bytes }) memory m.segments) o
 
-  memory_by : (ls : List Limits) → m.memories ≡ ls → FewPages ls → AllTrue (map (data_fits m) m.segments) → MemoryFits (start_of (empty_memory ls))
-  memory_by [] e h a = tt
-  memory_by (l ∷ ls) e h a =
-      let k : Memory = record { bytes = replicate (65536 * l.min) 0; max = min 4096 (unwrap_or l.max 4096) } in
+  abbrev first_memory : Limits → Memory
+  first_memory l = record { bytes = replicate (65536 * l.min) 0; max = min 4096 (unwrap_or l.max 4096) }
+
+  abbrev with_data : Memory → Memory
+  with_data memory = fold (λ k s. record k { bytes = runs_.over k.bytes (data_at m s) s.bytes }) memory m.segments
+
+  -- the memory has its least pages, and no more
+  start_bytes : (l : Limits) (ls : List Limits) → m.memories ≡ l ∷ ls → AllTrue (map (data_fits m) m.segments) → (length (with_data (first_memory l)).bytes ≡ 65536 * l.min) × ((with_data (first_memory l)).max ≡ (first_memory l).max)
+  start_bytes l ls e a =
+      let k = first_memory l in
       let n : length k.bytes ≡ 65536 * l.min = length-replicate {A = ℕ} (65536 * l.min) 0 in
       let same : length k.bytes ≡ length (memory_bytes (empty_memory m.memories)) = ap (λ z. length (memory_bytes (empty_memory z))) (sym e) in
-      let x = filled m.segments k (65536 * l.min) n (sym n ∙ same) a in
-      (l.min, x.0, omega (arith, h), omega (arith, x.1))
+      filled m.segments k (65536 * l.min) n (sym n ∙ same) a
+
+  memory_by : (ls : List Limits) → m.memories ≡ ls → FewPages ls → AllTrue (map (data_fits m) m.segments) → MemoryFits (start_of (empty_memory ls))
+  memory_by [] e h a = tt
+  memory_by (l ∷ ls) e h a = let x = start_bytes l ls e a in (l.min, x.0, omega (arith, h), omega (arith, x.1))
+
+  least_by : (ls : List Limits) → m.memories ≡ ls → AllTrue (map (data_fits m) m.segments) → HasLeast ls (start_of (empty_memory ls))
+  least_by [] e a = tt
+  least_by (l ∷ ls) e a = let x = start_bytes l ls e a in omega (arith, x.0)
 
 -- ---- what validity, the limits and the collisions give
 
@@ -172,6 +186,7 @@ starts_fit p g d replies e =
     record {
       globals = (s.world []).globals;
       memory = memory_by p.module_ p.module_.memories refl (few_pages p.module_ p.module_.memories g.pages) (all_true 0 _ (segments_true p.module_ (first_false 0 (map (element_fits p.module_) p.module_.elements)) e));
+      least = least_by p.module_ p.module_.memories refl (all_true 0 _ (segments_true p.module_ (first_false 0 (map (element_fits p.module_) p.module_.elements)) e));
       table = first_is_start p.module_ (all_true 0 _ (elements_true p.module_ (first_false 0 (map (element_fits p.module_) p.module_.elements)) e));
     }
 
@@ -182,6 +197,7 @@ fits_given p g few =
       ready = ready_given p g;
       globals = (s.world []).globals;
       memory = λ e. memory_by p.module_ p.module_.memories refl (few_pages p.module_ p.module_.memories g.pages) (all_true 0 _ (segments_true p.module_ (first_false 0 (map (element_fits p.module_) p.module_.elements)) e));
+      least = λ e. least_by p.module_ p.module_.memories refl (all_true 0 _ (segments_true p.module_ (first_false 0 (map (element_fits p.module_) p.module_.elements)) e));
       table = λ e. first_is_start p.module_ (all_true 0 _ (elements_true p.module_ (first_false 0 (map (element_fits p.module_) p.module_.elements)) e));
       exported = s.exported;
       listed = λ f e. has_type p.module_ g.valid f (listed_below p.module_ g.valid f e);

@@ -208,7 +208,7 @@ module _ (M M' : Engine) (E : ℕ) (gl : List ValType) (S : Stands M M' E gl) (g
     target = config (entered wi wb wtree type args ∷ []) (flagged M g (values.I32 up)) []
 
     pub fits : FitsConfig M E gl W.result source (w0 ∷ [])
-    fits = (wf, (record { size = types-locals args type.params (declared_locals b.groups) ty; room = zero_types (added k.slots); idx = refl; result = refl; funcs = refl; base = refl; helpers = refl; flag = sym gm; small = k.small; exposed = ap (λ q. exposed_in (nodes_of q)) (sym at); narrow = k.narrow; labels = (tt, tt, room_landed C (exposed_in tree.nodes) (landings_from (landed C (exposed_in tree.nodes) []) [] tree.nodes []) [] tree.nodes k.room, refl, tt); no_kind = tt }, refl), begins_known M f b tree type args g [] at)
+    fits = (wf, (record { size = types-locals args type.params (declared_locals b.groups) ty; room = zero_types (added k.slots); idx = refl; result = refl; funcs = refl; base = refl; helpers = refl; flag = sym gm; small = k.small; exposed = ap (λ q. exposed_in m.memories (nodes_of q)) (sym at); narrow = k.narrow; labels = (tt, tt, room_landed C (exposed_in m.memories tree.nodes) (landings_from (landed C (exposed_in m.memories tree.nodes) []) [] tree.nodes []) [] tree.nodes k.room, refl, tt); no_kind = tt }, refl), begins_known M f b tree type args g [] at wf.least)
 
     pub begin : To M' 1 (length type.params + 33) target (image M W source (w0 ∷ []))
     begin =
@@ -233,7 +233,7 @@ module _ (M M' : Engine) (E : ℕ) (gl : List ValType) (S : Stands M M' E gl) (g
         let tys : same_types (types args) type.params ≡ true = ap (λ z. same_types z type.params) ty ∙ same_types_refl type.params in
         let locals : args ++ zeros (declared_locals k.new.groups) ≡ (args ++ zeros (declared_locals b.groups)) ++ ex = new_locals args (declared_locals k.new.groups) (declared_locals b.groups) (added k.slots) k.locals in
         let s4 : To M' 1 1 (st X args (reverse args) kc g0 []) mid = one_step M' _ _ (rw (k.target, whole, twice, tys, depth, locals) refl) in
-        let s5 : To M' 0 25 mid (image M W source (w0 ∷ [])) = into_body M' (mapped m f) (result_of type) ((args ++ zeros (declared_locals b.groups)) ++ ex) (caller ∷ []) g0 [] D tree.nodes (few_landings (landed C (exposed_in tree.nodes) []) [] tree.nodes [] (omega arith)) in
+        let s5 : To M' 0 25 mid (image M W source (w0 ∷ [])) = into_body M' (mapped m f) (result_of type) ((args ++ zeros (declared_locals b.groups)) ++ ex) (caller ∷ []) g0 [] D tree.nodes (few_landings (landed C (exposed_in m.memories tree.nodes) []) [] tree.nodes [] (omega arith)) in
         subst (λ z. To M' 1 (length type.params + 33) (config (z ∷ []) gu []) (image M W source (w0 ∷ []))) (sym noted) (weaken M' (seq M' s1 (seq M' s2 (seq M' s3 (seq M' s4 s5)))) (omega arith) (omega arith))
 
     abbrev pub target_run : ℕ → Ended

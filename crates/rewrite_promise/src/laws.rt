@@ -18,7 +18,8 @@ ghost use Rattle.rewrite_modules.specs.calls.Example.{divider};
 ghost use Rattle.rewrite_modules.specs.Weight.{AreHeights, weight};
 ghost use Rattle.rewrite_promise.specs.calls.Example.{divider_bytes};
 ghost use Rattle.rewrite_promise.specs.calls.Layers.{Layered};
-ghost use Rattle.rewrite_promise.specs.calls.Promise.{Accepted, AcceptedBytes, IsRewriting, Promised, DecodesAsRewriting};
+ghost use Rattle.rewrite_promise.specs.calls.Promise.{Accepted, AcceptedBytes, IsRewriting};
+ghost use Rattle.rewrite_promise.specs.calls.Promise.{Promised, DecodesAsRewriting};
 ghost use Rattle.rewrite_promise.specs.Outside.{KeepsOutside};
 ghost use Rattle.rewrite_promise.specs.Admitted.{Admits};
 

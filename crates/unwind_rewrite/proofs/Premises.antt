@@ -176,7 +176,7 @@ module _ (m : Module) (a : Accepted m) (f : ℕ) (b : Body) (here : body_in m f 
         low_in (y ∷ xs) h (suc n) x e = low_in xs h.1 n x e
 
     -- what is written is the body of the definitions
-    written_is : (out : Body) (os : List ℕ) (xs : List Landing) → os ≡ exposed_in tree.nodes → xs ≡ landings_from (landed C os []) [] tree.nodes [] → ((t : Tree) → Writes b.targets b.ops t → Fine (landed C os xs) [] t.nodes → body_code out ≡ body_code (body_of (b.groups ++ groups C.slots) (laid (landed C os xs) t.nodes))) → body_code out ≡ body_code (new_body p f (function_at p f))
+    written_is : (out : Body) (os : List ℕ) (xs : List Landing) → os ≡ exposed_in m.memories tree.nodes → xs ≡ landings_from (landed C os []) [] tree.nodes [] → ((t : Tree) → Writes b.targets b.ops t → Fine (landed C os xs) [] t.nodes → body_code out ≡ body_code (body_of (b.groups ++ groups C.slots) (laid (landed C os xs) t.nodes))) → body_code out ≡ body_code (new_body p f (function_at p f))
     written_is out os xs own e h =
         h tree writes (fine_with os xs)
         ∙ ap (λ ys. body_code (body_of (b.groups ++ groups C.slots) (laid (landed C os ys) tree.nodes))) e
@@ -193,7 +193,7 @@ module _ (m : Module) (a : Accepted m) (f : ℕ) (b : Body) (here : body_in m f 
       let is = planned a b found.tree found.type found.is in
       low_ones plan found.tree found.type found.is is os xs (e found.tree (writes plan found.tree found.type found.is is))
 
-pub is_rewritten : {E : Type 0} (m : Module) (f : ℕ) (b : Body) → body_in m f ≡ Some b → (plan : Planned) → IsPlanIn m f plan → (os : List ℕ) (xs : List Landing) → ((t : Tree) → Writes b.targets b.ops t → os ≡ exposed_in t.nodes) → ((t : Tree) → Writes b.targets b.ops t → xs ≡ landings_from (context m plan.locals plan.slots f (gives_of m f) [] os) [] t.nodes []) → (C : Ctx) → C ≡ context m plan.locals plan.slots f (gives_of m f) xs os → (r : Result Body E)
+pub is_rewritten : {E : Type 0} (m : Module) (f : ℕ) (b : Body) → body_in m f ≡ Some b → (plan : Planned) → IsPlanIn m f plan → (os : List ℕ) (xs : List Landing) → ((t : Tree) → Writes b.targets b.ops t → os ≡ exposed_in m.memories t.nodes) → ((t : Tree) → Writes b.targets b.ops t → xs ≡ landings_from (context m plan.locals plan.slots f (gives_of m f) [] os) [] t.nodes []) → (C : Ctx) → C ≡ context m plan.locals plan.slots f (gives_of m f) xs os → (r : Result Body E)
     → ((t : Tree) → Writes b.targets b.ops t → Fine C [] t.nodes → IfOk r (λ out. body_code out ≡ body_code (body_of (b.groups ++ groups C.slots) (laid C t.nodes)))) → IfOk r (IsRewritten m f)
 is_rewritten m f b here plan planned os xs own es C e (Err x) h = tt
 is_rewritten m f b here plan planned os xs own es C e (Ok out) h = λ a.
@@ -211,8 +211,8 @@ planned_context m f plan os xs {n = n} {gives = gives} made locals types heights
     ∙ ap (λ g. context m plan.locals plan.slots f g xs os) (result ∙ ap (λ (x : Module). gives_of x f) source)
 
 -- the offsets and the landings that were noted are the function's own
-pub own_exposed : (b : Body) (os : List ℕ) {ops : List Op} → ops ≡ b.ops → ((targets : List ℕ) (t : Tree) → Writes targets ops t → os ≡ exposed_in t.nodes) → (t : Tree) → Writes b.targets b.ops t → os ≡ exposed_in t.nodes
-own_exposed b os code noted t w = noted b.targets t (subst (λ (o : List Op). Writes b.targets o t) (sym code) w)
+pub own_exposed : (m : Module) (b : Body) (os : List ℕ) {parts : Module} {ops : List Op} → parts ≡ m → ops ≡ b.ops → ((targets : List ℕ) (t : Tree) → Writes targets ops t → os ≡ exposed_in parts.memories t.nodes) → (t : Tree) → Writes b.targets b.ops t → os ≡ exposed_in m.memories t.nodes
+own_exposed m b os source code noted t w = noted b.targets t (subst (λ (o : List Op). Writes b.targets o t) (sym code) w) ∙ ap (λ (x : Module). exposed_in x.memories t.nodes) source
 
 pub own_landings : (m : Module) (f : ℕ) (plan : Planned) (b : Body) (os : List ℕ) (xs : List Landing) {parts : Module} {ts : List ValType} {ops : List Op} → ts ≡ plan.locals → parts ≡ m → ops ≡ b.ops → ((C : Ctx) (targets : List ℕ) (t : Tree) → C.locals ≡ ts → C.source ≡ parts → C.exposed ≡ os → Writes targets ops t → xs ≡ landings_from C [] t.nodes []) → (t : Tree) → Writes b.targets b.ops t → xs ≡ landings_from (context m plan.locals plan.slots f (gives_of m f) [] os) [] t.nodes []
 own_landings m f plan b os xs types source code noted t w =

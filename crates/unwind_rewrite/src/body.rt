@@ -95,7 +95,7 @@ pub fn rewrite_body(
     let body = body_at(parts, func);
     let locals = Items::from_slice(alloc, plan.types())?;
     let result = gives(parts, func);
-    let guarded = exposed(alloc, body.ops.as_slice())?;
+    let guarded = exposed(alloc, parts, body.ops.as_slice())?;
     let found = landings(alloc, plan.types(), parts, body.ops.as_slice(), &guarded)?;
     let heights = plan.heights();
     let context = FunctionContext::new(numbers, locals, heights, func, result, found, guarded);

@@ -156,7 +156,7 @@ pub(crate) fn test_flag(
     ensures { OnOk result (Emits (test_flag context.now site.now.labels
         (less count site.now.places.now) site.now.offset) writer.old writer.new) }
 {
-    match context.landing_behind(site.places, count) {
+    match context.landing_behind(site.offset, site.places, count) {
         Some(number) => test_by_landing(context, writer, site, count, number),
         None => test_in_place(context, writer, site, count),
     }

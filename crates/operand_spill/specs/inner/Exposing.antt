@@ -1,23 +1,32 @@
 -- The instructions of a body that need a guard, and the locals that its blocks write, along its flat code.
-use Rattle.std.specs.Prelude.{ℕ, zero, suc, ◌-◌, ◌&&◌, ◌||◌, not, List, [], ◌∷◌, ◌++◌, Bool, true, false, Option}
+use Rattle.std.specs.Prelude.{ℕ, zero, suc, ◌-◌, ◌&&◌, ◌||◌, not, List, [], ◌∷◌, ◌++◌, Bool, true, false, Option, Some, None, option_map}
 use Rattle.std.specs.Ordering.{nat_cmp}
 use Rattle.std.specs.BTreeSet.{BTreeSet, contains}
 use Rattle.wasm_syntax.specs.Tree.{Item, Plain, Goes, Opens, OpensLoop, OpensIf, Else, End, Placed}
 use Rattle.rewrite_bodies.specs.calls.Slots.{local_written}
 use Rattle.rewrite_bodies.specs.calls.Guards.{can_trap}
-use Rattle.rewrite_bodies.specs.calls.Facts.{Fact, Copies, no_copies, is_local, others, copies_behind, facts_behind, shown, is_answered}
+use Rattle.rewrite_bodies.specs.calls.Facts.{Base, Zero, Local, Copy, Fact, Copies, no_copies, is_local, others, copies_behind, facts_behind, shown, is_answered}
+use Rattle.operand_spill.specs.declared.copies.KnownCopy.{KnownCopy}
+use Rattle.operand_spill.specs.declared.copies.KnownCopies.{KnownCopies}
 use Rattle.operand_spill.specs.declared.facts.KnownFact.{KnownFact}
 
 -- ---- as they are kept
 
+abbrev pub base_of : Option ℕ → Base
+base_of None = Zero
+base_of (Some x) = Local x
+
 abbrev pub fact : KnownFact → Fact
-fact k = record { local = k.local; end = k.end }
+fact k = record { base = base_of k.local; end = k.end }
 
-abbrev pub made : ℕ → ℕ → Fact
-made local end = record { local = local; end = end }
+abbrev pub made : Option ℕ → ℕ → Fact
+made local end = record { base = base_of local; end = end }
 
-abbrev pub copies : Option ℕ → Option ℕ → Copies
-copies first second = record { first = first; second = second }
+abbrev pub copy : KnownCopy → Copy
+copy k = record { base = base_of k.local; plus = k.plus }
+
+abbrev pub copies : KnownCopies → Copies
+copies k = record { first = option_map copy k.first; second = option_map copy k.second; third = option_map copy k.third }
 
 -- the locals of a set
 abbrev pub held : BTreeSet ℕ → ℕ → Bool

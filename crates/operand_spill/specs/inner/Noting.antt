@@ -5,26 +5,26 @@ use Rattle.wasm_syntax.specs.Tree.{Jump, Unreachable, Br, BrIf, BrTable, Return,
 use Rattle.wasm_syntax.specs.Module.{type_at}
 use Rattle.rewrite_bodies.specs.Numbering.{import_count}
 use Rattle.rewrite_bodies.specs.calls.Slots.{Place, Landing, Ctx, less}
-use Rattle.rewrite_bodies.specs.calls.Landings.{landing_at, with_some, landing_call}
+use Rattle.rewrite_bodies.specs.calls.Landings.{landing_at, with_some, landing_call, part_of}
 use Rattle.operand_spill.specs.inner.Knowing.{Places}
 
-abbrev pub noted_call : Bool → Option FuncType → List Place → List Landing → List Landing
-noted_call direct None es xs = xs
-noted_call direct (Some type) es xs = landing_call direct (less (length type.params) es) xs
+abbrev pub noted_call : ℕ → Bool → Option FuncType → List Place → List Landing → List Landing
+noted_call p direct None es xs = xs
+noted_call p direct (Some type) es xs = landing_call p direct (less (length type.params) es) xs
 
-abbrev pub noted_jump : Ctx → Jump → List Place → List Landing → List Landing
-noted_jump C Unreachable es xs = xs
-noted_jump C (Br l) es xs = xs
-noted_jump C (BrIf l) es xs = xs
-noted_jump C (BrTable ts d) es xs = xs
-noted_jump C Return es xs = xs
-noted_jump C (Call f) es xs = noted_call (nat_lt f (import_count C.source)) (type_at C.source f) es xs
-noted_jump C (CallIndirect t) es xs = xs
+abbrev pub noted_jump : Ctx → ℕ → Jump → List Place → List Landing → List Landing
+noted_jump C p Unreachable es xs = xs
+noted_jump C p (Br l) es xs = xs
+noted_jump C p (BrIf l) es xs = xs
+noted_jump C p (BrTable ts d) es xs = xs
+noted_jump C p Return es xs = xs
+noted_jump C p (Call f) es xs = noted_call p (nat_lt f (import_count C.source)) (type_at C.source f) es xs
+noted_jump C p (CallIndirect t) es xs = xs
 
 -- of a live instruction, over these places
 abbrev pub noted_item : Ctx → ℕ → Item → List Place → List Landing → List Landing
 noted_item C at (Plain i) es xs = with_some (landing_at C at i es) xs
-noted_item C at (Goes j) es xs = noted_jump C j es xs
+noted_item C at (Goes j) es xs = noted_jump C (part_of C.locals at) j es xs
 noted_item C at (Opens t) es xs = xs
 noted_item C at (OpensLoop t) es xs = xs
 noted_item C at (OpensIf t) es xs = xs

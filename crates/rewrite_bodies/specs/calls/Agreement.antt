@@ -18,7 +18,7 @@ use Rattle.rewrite_bodies.specs.Numbering.{mapped, place_in, global_types, helpe
 use Rattle.linear_memory.specs.Memory.{Memory}
 use Rattle.rewrite_bodies.specs.calls.Offsets.{SmallOffset}
 use Rattle.rewrite_bodies.specs.calls.Facts.{exposed_in}
-use Rattle.rewrite_bodies.specs.calls.Known.{nodes_in, KnownConfig}
+use Rattle.rewrite_bodies.specs.calls.Known.{HasLeast, nodes_in, KnownConfig}
 
 -- the operand is in its slot besides, or is the constant, or in the local
 abbrev pub One : List Value → List Value → ℕ → Place → Value → Type 0
@@ -179,6 +179,7 @@ NoKind C ex (Some u) = (slice_get ex (kind_at C) ≡ Some (values.I32 0)) × (le
 pub record WorldFits (M : Engine) (gl : List ValType) (w : World) : Type 0 where
   pub globals : types w.globals ≡ gl
   pub memory : MemoryFits w.memory
+  pub least : HasLeast M.program.module_.memories w.memory
   pub table : w.table ≡ first_table M.program.module_
 
 pub record FitsFrame (M : Engine) (E : ℕ) (gl : List ValType) (a : Option ValType) (F : Frame) (w : Wit) : Type 0 where
@@ -191,7 +192,7 @@ pub record FitsFrame (M : Engine) (E : ℕ) (gl : List ValType) (a : Option ValT
   pub helpers : w.ctx.helpers ≡ helped M.program
   pub flag : global_types w.ctx.source ≡ gl
   pub small : 2 * length w.ctx.locals + 4 * w.ctx.slots + 80 ≤ E
-  pub exposed : w.ctx.exposed ≡ exposed_in (nodes_in M.program F.function)
+  pub exposed : w.ctx.exposed ≡ exposed_in M.program.module_.memories (nodes_in M.program F.function)
   pub narrow : length w.ctx.locals + w.ctx.slots ≤ (greatest M.program).0 + (greatest M.program).1
   pub labels : FitsOpen w.ctx F.locals w.ex a F.labels w.ss
   pub no_kind : NoKind w.ctx w.ex w.under_way

@@ -1,9 +1,14 @@
 -- Which instructions need a guard: those that can trap and that no fact answers. A fact says that so many bytes from the value of a local on lie
 -- inside the memory, which never gets shorter. An access whose address is a copy of the local shows one, and it answers a later one that ends no
 -- further, as long as the local is not written. In a block, and behind it, facts of what went in hold whose local no block of the function writes.
-use Rattle.std.specs.Prelude.{ℕ, ◌+◌, ◌/◌, ◌==◌, ◌&&◌, ◌||◌, nat_le, nat_lt, not, List, [], ◌∷◌, ◌++◌, length, Option, Some, None, Bool, true, false}
+use Rattle.std.specs.Prelude.{ℕ, ◌+◌, ◌*◌, ◌/◌, ◌==◌, ◌&&◌, ◌||◌, nat_le, nat_lt, not, List, [], ◌∷◌, ◌++◌, length, Option, Some, None, Bool, true, false}
 use Rattle.wasm_syntax.specs.declared.instruction.Basic.{Basic}
-use Rattle.wasm_syntax.specs.declared.instruction.Basic.TheVariants.{LocalGet, Load, Store, Const}
+use Rattle.wasm_syntax.specs.declared.instruction.Basic.TheVariants.{LocalGet, LocalTee, Load, Store, Const, Eqz, Unary, Compare, Binary, Convert, Extend32, Extend64}
+use Rattle.wasm_syntax.specs.declared.value.ValType.TheVariants.{I32}
+use Rattle.wasm_syntax.specs.declared.value.Value.{Value}
+use Rattle.wasm_syntax.specs.declared.value.Value.TheVariants as values
+use Rattle.wasm_syntax.specs.declared.parts.Limits.{Limits}
+use Rattle.wasm_syntax.specs.Numbers.{modulo}
 use Rattle.wasm_syntax.specs.Access.{load_bits, store_bits}
 use Rattle.wasm_syntax.specs.Tree.{Nodes, stop, basic, jump, block, loop, choose}
 use Rattle.rewrite_bodies.specs.calls.Slots.{Ctx, local_written}
@@ -35,15 +40,31 @@ frail (choose o t a else_at b end rest) x = written a x || (written b x || frail
 
 -- ---- facts
 
--- the bytes from the value of a local to this end, which is counted from there, lie inside the memory
+-- where bytes are counted from: address 0, or the value of a local
+pub data Base : Type 0 where
+  Zero : Base
+  Local : (x : ℕ) → Base
+
+abbrev pub same_base : Base → Base → Bool
+same_base Zero Zero = true
+same_base Zero (Local y) = false
+same_base (Local x) Zero = false
+same_base (Local x) (Local y) = x == y
+
+-- it is one of these locals
+abbrev pub is_on : (ℕ → Bool) → Base → Bool
+is_on these Zero = false
+is_on these (Local x) = these x
+
+-- the bytes from there to this end lie inside the memory
 pub record Fact : Type 0 where
-  pub local : ℕ
+  pub base : Base
   pub end : ℕ
 
 -- where these facts say so of a local
 abbrev pub answered : Fact → List Fact → Bool
 answered f [] = false
-answered f (g ∷ gs) = ((g.local == f.local) && nat_le f.end g.end) || answered f gs
+answered f (g ∷ gs) = (same_base g.base f.base && nat_le f.end g.end) || answered f gs
 
 abbrev pub keep_if : Bool → Fact → List Fact → List Fact
 keep_if true f fs = f ∷ fs
@@ -52,11 +73,16 @@ keep_if false f fs = fs
 -- those on none of these locals
 abbrev pub others : (ℕ → Bool) → List Fact → List Fact
 others these [] = []
-others these (f ∷ fs) = keep_if (not (these f.local)) f (others these fs)
+others these (f ∷ fs) = keep_if (not (is_on these f.base)) f (others these fs)
 
--- the most facts that are kept
+-- where a function begins: a memory has its least pages
+abbrev pub first_facts : List Limits → List Fact
+first_facts [] = []
+first_facts (l ∷ ls) = record { base = Zero; end = 65536 * l.min } ∷ []
+
+-- the most facts that are kept, with that one
 abbrev pub most_facts : ℕ
-most_facts = 32
+most_facts = 33
 
 abbrev pub one_noted : Bool → Fact → List Fact → List Fact
 one_noted true f fs = fs ++ f ∷ []
@@ -64,24 +90,66 @@ one_noted false f fs = fs
 
 -- ---- copies
 
--- the locals of which the topmost operand and the one under it are copies
+-- a number, or the value of a local: so much behind a base
+pub record Copy : Type 0 where
+  pub base : Base
+  pub plus : ℕ
+
+abbrev pub copy_of : ℕ → Copy
+copy_of x = record { base = Local x; plus = 0 }
+
+abbrev pub number_of : Value → Option Copy
+number_of (values.I32 n) = Some (record { base = Zero; plus = modulo I32 n })
+number_of (values.I64 n) = None
+
+-- what the three topmost operands are, the topmost first, where it is known
 pub record Copies : Type 0 where
-  pub first : Option ℕ
-  pub second : Option ℕ
+  pub first : Option Copy
+  pub second : Option Copy
+  pub third : Option Copy
 
 abbrev pub no_copies : Copies
-no_copies = record { first = None; second = None }
+no_copies = record { first = None; second = None; third = None }
+
+-- under one more operand
+abbrev pub under_one : Option Copy → Copies → Copies
+under_one top c = record { first = top; second = c.first; third = c.second }
+
+-- without the topmost
+abbrev pub without_top : Copies → Copies
+without_top c = record { first = c.second; second = c.third; third = None }
+
+-- none of a local that is written
+abbrev pub unless : Bool → Copy → Option Copy
+unless true k = None
+unless false k = Some k
+
+abbrev pub unless_on : (ℕ → Bool) → Option Copy → Option Copy
+unless_on these None = None
+unless_on these (Some k) = unless (is_on these k.base) k
+
+abbrev pub other_copies : (ℕ → Bool) → Copies → Copies
+other_copies these c = record { first = unless_on these c.first; second = unless_on these c.second; third = unless_on these c.third }
 
 abbrev pub copies_behind : Basic → Copies → Copies
-copies_behind (LocalGet x) c = record { first = Some x; second = c.first }
-copies_behind (Const v) c = record { first = None; second = c.first }
+copies_behind (LocalGet x) c = under_one (Some (copy_of x)) c
+copies_behind (LocalTee x) c = under_one (Some (copy_of x)) (other_copies (is_local (Some x)) (without_top c))
+copies_behind (Const v) c = under_one (number_of v) c
+copies_behind (Load l align o) c = under_one None (without_top c)
+copies_behind (Eqz t) c = under_one None (without_top c)
+copies_behind (Unary t op) c = under_one None (without_top c)
+copies_behind (Convert k) c = under_one None (without_top c)
+copies_behind (Extend32 k) c = under_one None (without_top c)
+copies_behind (Extend64 k) c = under_one None (without_top c)
+copies_behind (Compare t op) c = under_one None (without_top (without_top c))
+copies_behind (Binary t op) c = under_one None (without_top (without_top c))
 copies_behind i c = no_copies
 
 -- ---- an instruction
 
-abbrev pub reach : Option ℕ → ℕ → Option Fact
+abbrev pub reach : Option Copy → ℕ → Option Fact
 reach None n = None
-reach (Some x) n = Some (record { local = x; end = n })
+reach (Some k) n = Some (record { base = k.base; end = k.plus + n })
 
 -- what an access shows
 abbrev pub shown : Basic → Copies → Option Fact
@@ -121,8 +189,9 @@ exposed_from these fs c (choose o t a else_at b end rest) =
     let kept = others these fs in
     exposed_from these kept no_copies a ++ (exposed_from these kept no_copies b ++ exposed_from these kept no_copies rest)
 
-abbrev pub exposed_in : Nodes → List ℕ
-exposed_in nodes = exposed_from (frail nodes) [] no_copies nodes
+-- by the memories of the module
+abbrev pub exposed_in : List Limits → Nodes → List ℕ
+exposed_in ls nodes = exposed_from (frail nodes) (first_facts ls) no_copies nodes
 
 abbrev pub among : ℕ → List ℕ → Bool
 among o [] = false

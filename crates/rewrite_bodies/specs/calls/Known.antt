@@ -1,15 +1,18 @@
 -- What is known where a run of the original stands: the facts of each open label hold, nodes that are still to be run have a guard where the facts
 -- there do not answer, and nodes inside a label write no local of a fact outside.
-use Rattle.std.specs.Prelude.{◌≡◌, ℕ, ◌≤◌, List, [], ◌∷◌, length, slice_get, Option, Some, None, Bool, true, false}
+use Rattle.std.specs.Prelude.{◌≡◌, ℕ, ◌*◌, ◌≤◌, List, [], ◌∷◌, length, slice_get, Option, Some, None, Bool, true, false}
 use Rattle.wasm_syntax.specs.declared.value.Value.{Value}
 use Rattle.wasm_syntax.specs.declared.value.Value.TheVariants as values
 use Rattle.linear_memory.specs.Memory.{Memory}
+use Rattle.wasm_syntax.specs.declared.value.ValType.TheVariants.{I32}
+use Rattle.wasm_syntax.specs.declared.parts.Limits.{Limits}
+use Rattle.wasm_syntax.specs.Numbers.{modulo}
 use Rattle.wasm_syntax.specs.Effect.{address}
 use Rattle.wasm_syntax.specs.Tree.{Nodes, stop, basic, jump, block, loop, choose}
 use Rattle.wasm_syntax.specs.Module.{Program, Function, defined, function_at}
 use Rattle.wasm_syntax.specs.Machine.{Kind, leaves, again, returns, Label, Frame, Config}
 use Rattle.rewrite_bodies.specs.calls.Guards.{can_trap}
-use Rattle.rewrite_bodies.specs.calls.Facts.{Fact, Copies, no_copies, written, frail, others, shown, is_answered, copies_behind, facts_behind, among, exposed_in}
+use Rattle.rewrite_bodies.specs.calls.Facts.{Base, Zero, Local, is_on, Fact, Copy, Copies, no_copies, written, frail, others, shown, is_answered, copies_behind, facts_behind, among, exposed_in}
 
 -- ---- what holds of the locals and the memory
 
@@ -17,25 +20,39 @@ abbrev pub Reaches : Option Memory → ℕ → Type 0
 Reaches None n = ⊥
 Reaches (Some m) n = n ≤ length m.bytes
 
+abbrev pub Extends : List Value → Option Memory → Base → ℕ → Type 0
+Extends l mem Zero n = Reaches mem n
+Extends l mem (Local x) n = (a : ℕ) × (slice_get l x ≡ Some (values.I32 a)) × Reaches mem (address a n)
+
 abbrev pub FactHolds : List Value → Option Memory → Fact → Type 0
-FactHolds l mem f = (a : ℕ) × (slice_get l f.local ≡ Some (values.I32 a)) × Reaches mem (address a f.end)
+FactHolds l mem f = Extends l mem f.base f.end
 
 abbrev pub FactsHold : List Value → Option Memory → List Fact → Type 0
 FactsHold l mem [] = Unit {0}
 FactsHold l mem (f ∷ fs) = FactHolds l mem f × FactsHold l mem fs
 
--- the topmost operand is a copy of this local, if of one
-abbrev pub IsCopy : List Value → Option ℕ → List Value → Type 0
+-- the memory, where there is one, has its least pages
+abbrev pub HasLeast : List Limits → Option Memory → Type 0
+HasLeast [] mem = Unit {0}
+HasLeast (l ∷ ls) mem = Reaches mem (65536 * l.min)
+
+-- the value is the one of the local, or this number of an i32
+abbrev pub Stands : List Value → Base → ℕ → Value → Type 0
+Stands l Zero p v = (a : ℕ) × (v ≡ values.I32 a) × (modulo I32 a ≡ p)
+Stands l (Local x) p v = (slice_get l x ≡ Some v) × (p ≡ 0)
+
+-- the topmost one of these operands is this, where it is known
+abbrev pub IsCopy : List Value → Option Copy → List Value → Type 0
 IsCopy l None ops = Unit {0}
-IsCopy l (Some x) [] = ⊥
-IsCopy l (Some x) (v ∷ ops) = slice_get l x ≡ Some v
+IsCopy l (Some k) [] = ⊥
+IsCopy l (Some k) (v ∷ ops) = Stands l k.base k.plus v
 
 abbrev pub under_top : List Value → List Value
 under_top [] = []
 under_top (v ∷ ops) = ops
 
 abbrev pub CopiesHold : List Value → Copies → List Value → Type 0
-CopiesHold l c ops = IsCopy l c.first ops × IsCopy l c.second (under_top ops)
+CopiesHold l c ops = IsCopy l c.first ops × IsCopy l c.second (under_top ops) × IsCopy l c.third (under_top (under_top ops))
 
 -- ---- what is said of nodes
 
@@ -46,7 +63,7 @@ Within these nodes = (x : ℕ) → written nodes x ≡ true → these x ≡ true
 -- no fact on these locals
 abbrev pub Steady : (ℕ → Bool) → List Fact → Type 0
 Steady these [] = Unit {0}
-Steady these (f ∷ fs) = (these f.local ≡ false) × Steady these fs
+Steady these (f ∷ fs) = (is_on these f.base ≡ false) × Steady these fs
 
 -- each instruction that can trap is among these offsets, or the facts there answer it; and blocks write no other locals than these
 abbrev pub Sound : List ℕ → (ℕ → Bool) → List Fact → Copies → Nodes → Type 0
@@ -113,10 +130,10 @@ abbrev pub nodes_in : Program → ℕ → Nodes
 nodes_in p f = nodes_of (function_at p f)
 
 abbrev pub KnownFrame : Program → Option Memory → Frame → Type 0
-KnownFrame p mem F = KnownLabels (exposed_in (nodes_in p F.function)) (frail (nodes_in p F.function)) F.locals mem F.labels
+KnownFrame p mem F = KnownLabels (exposed_in p.module_.memories (nodes_in p F.function)) (frail (nodes_in p F.function)) F.locals mem F.labels
 
 abbrev pub KnownCaller : Program → Option Memory → Frame → Type 0
-KnownCaller p mem F = KnownWaiting (exposed_in (nodes_in p F.function)) (frail (nodes_in p F.function)) F.locals mem F.labels
+KnownCaller p mem F = KnownWaiting (exposed_in p.module_.memories (nodes_in p F.function)) (frail (nodes_in p F.function)) F.locals mem F.labels
 
 abbrev pub KnownCallers : Program → Option Memory → List Frame → Type 0
 KnownCallers p mem [] = Unit {0}

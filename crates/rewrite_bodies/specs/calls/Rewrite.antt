@@ -17,7 +17,7 @@ use Rattle.rewrite_bodies.specs.calls.Slots.{Place, Spilled, place_type, Ctx, ki
 use Rattle.rewrite_bodies.specs.calls.Pieces.{get, set, const, i32, call, if_any, fetch, load, keep, store, reload, spill, drops}
 use Rattle.rewrite_bodies.specs.calls.Guards.{guard, kind}
 use Rattle.rewrite_bodies.specs.calls.Facts.{needs}
-use Rattle.rewrite_bodies.specs.calls.Landings.{number_of, number_in, landing_of, landing_behind, with_landings}
+use Rattle.rewrite_bodies.specs.calls.Landings.{number_of, number_in, part_of, landing_of, landing_behind, with_landings}
 
 -- ---- handing over
 
@@ -59,13 +59,13 @@ checked (Some n) C d es o test says_kind k = const (i32 o) (set C (offset_at C) 
 
 abbrev pub guarded : Bool → Ctx → ℕ → List Place → ℕ → Basic → Nodes → Nodes
 guarded false C d es o i k = k
-guarded true C d es o i k = checked (number_in C.landings (landing_of i es)) C d es o (guard C i es) (kind C i es) k
+guarded true C d es o i k = checked (number_in C.landings (landing_of (part_of C.locals o) i es)) C d es o (guard C i es) (kind C i es) k
 
 abbrev pub get_flag : Ctx → Nodes → Nodes
 get_flag C k = basic 0 (GlobalGet (flag_of C.source)) k
 
 abbrev pub test_flag : Ctx → ℕ → List Place → ℕ → Nodes → Nodes
-test_flag C d es o k = checked (number_of (landing_behind es) C.landings) C d es o (get_flag C) (const (i32 0)) k
+test_flag C d es o k = checked (number_of (landing_behind (part_of C.locals o) es) C.landings) C d es o (get_flag C) (const (i32 0)) k
 
 -- ---- basic instructions
 

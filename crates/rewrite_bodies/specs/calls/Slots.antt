@@ -31,11 +31,12 @@ place_type (Known v) = type_of v
 place_type (Copied t x) = t
 
 -- a place behind the body at which a frame is handed over: with the operands in these places, under one of this type, where there is one, which
--- comes with the branch; and with this kind
+-- comes with the branch; with this kind; and out of this part of the body, on which nothing of what is handed over depends
 pub record Landing : Type 0 where
   pub carried : Option ValType
   pub places : List Place
   pub kind : ℕ
+  pub part : ℕ
 
 -- what is fixed in a function: its module, the index of the first helper and the types that have one, the types of its locals, the
 -- number of heights, its index and its result, its landings, and the offsets of instructions that need a guard

@@ -7,8 +7,8 @@ use Rattle.rewrite_code.specs.declared.landing.Landing.{Landing as Kept}
 use Rattle.rewrite_code.specs.calls.Places.{from_top}
 
 abbrev pub landing : Kept → Landing
-landing l = record { carried = l.carried; places = l.places; kind = l.kind }
+landing l = record { carried = l.carried; places = l.places; kind = l.kind; part = l.part }
 
--- for these operands, with the topmost last
-abbrev pub made_landing : Option ValType → List OperandPlace → ℕ → Landing
-made_landing carried operands kind = record { carried = carried; places = from_top operands; kind = kind }
+-- for these operands, with the topmost last, this kind, and this part
+abbrev pub made_landing : Option ValType → List OperandPlace → ℕ → ℕ → Landing
+made_landing carried operands kind part = record { carried = carried; places = from_top operands; kind = kind; part = part }

@@ -1,15 +1,15 @@
 use Rattle.std.proofs.Common.{ap₂, ◌∙◌, arith}
 use Rattle.wasm_syntax.specs.Tree.{code_of}
-use Rattle.rewrite_bodies.specs.calls.Facts.{frail}
+use Rattle.rewrite_bodies.specs.calls.Facts.{frail, first_facts}
 use Rattle.operand_spill.specs.inner.Exposing.{held, exposed_along}
 use Rattle.operand_spill.proofs.Exposings.{exposed_begin, exposed_turn, exposed_end, own_exposed}
 use Rattle.operand_spill.proofs.exposing.exposed.Goals as goal
 
 pub loop-pc-init : goal.loop-pc-init
 loop-pc-init c = λ targets tree w.
-    ap₂ (λ k os. exposed_along (held c.in_ok-marks.marks) k (code_of targets c.args.ops.now) os) c.new-knowing.ensures c.new-found.ensures
-    ∙ exposed_begin (held c.in_ok-marks.marks) targets c.args.ops.now tree w
-    ∙ own_exposed (held c.in_ok-marks.marks) (frail tree.nodes) tree.nodes (c.in_ok-marks.ensures targets tree w)
+    ap₂ (λ k os. exposed_along (held c.in_ok-marks.marks) k (code_of targets c.args.ops.now) os) c.in_ok-knowing.ensures c.new-found.ensures
+    ∙ exposed_begin (held c.in_ok-marks.marks) (first_facts c.args.source.now.memories) targets c.args.ops.now tree w
+    ∙ own_exposed (first_facts c.args.source.now.memories) (held c.in_ok-marks.marks) (frail tree.nodes) tree.nodes (c.in_ok-marks.ensures targets tree w)
 
 pub loop-pc-preserved : goal.loop-pc-preserved
 loop-pc-preserved c = λ targets tree w.

@@ -5,7 +5,7 @@ use Rattle.operand_spill.specs.inner.Exposing.{held, exposed_along}
 use Rattle.operand_spill.proofs.exposing.exposed.Given as goal
 
 abbrev pub invariant-loop-pc : goal.invariant-loop-pc
-invariant-loop-pc l = (targets : List ℕ) (tree : Tree) → Writes targets l.ops tree → exposed_along (held l.marks) l.knowing (drop l.pc (code_of targets l.ops)) l.found ≡ exposed_in tree.nodes
+invariant-loop-pc l = (targets : List ℕ) (tree : Tree) → Writes targets l.ops tree → exposed_along (held l.marks) l.knowing (drop l.pc (code_of targets l.ops)) l.found ≡ exposed_in l.fn.source.memories tree.nodes
 
 abbrev pub decreases-loop-pc : goal.decreases-loop-pc
 decreases-loop-pc l = length l.ops - l.pc

@@ -19,7 +19,7 @@ loop-pc-preserved c = λ C targets tree l s x w.
     let i = c.loop-pc.invariant C targets tree l s x w in
     let whole = before C tree.nodes in
     let on = c.in_ok-pc.ensures.stays C targets whole l s i.1 in
-    (walked C targets c.args.ops.now whole c.loop-pc.pc c.in_ok-pc.pc c.read_op-op.result c.loop-pc.walk c.loop-pc.found c.note.new.found (landings_from C [] tree.nodes []) c.read_op-op.ensures c.loop-pc-test.true i.1 i.0 (c.in_ok-note.ensures C targets s x) c.in_ok-pc.ensures.forward on.0, on.1)
+    (walked C targets c.args.ops.now whole c.loop-pc.pc c.in_ok-pc.pc c.read_op-op.result c.loop-pc.walk c.loop-pc.found c.note.new.found (landings_from C [] tree.nodes []) c.read_op-op.ensures c.loop-pc-test.true i.1 i.0 (c.in_ok-note.ensures C targets l s x) c.in_ok-pc.ensures.forward on.0, on.1)
 
 pub returns : goal.returns
 returns c = λ C targets tree l s x w.

@@ -9,7 +9,8 @@ invariant-loop-number l = record {
   first : l.carried ≡ l.fn.carried;
   second : l.operands ≡ l.fn.operands;
   third : l.kind ≡ l.fn.kind;
+  fourth : l.part ≡ l.fn.part;
   so_far :
-      number_of (made_landing l.fn.carried l.fn.operands l.fn.kind) (map landing l.fn.landings)
-      ≡ option_map (λ n. l.number + n) (number_of (made_landing l.fn.carried l.fn.operands l.fn.kind) (map landing (drop l.number l.fn.landings)));
+      number_of (made_landing l.fn.carried l.fn.operands l.fn.kind l.fn.part) (map landing l.fn.landings)
+      ≡ option_map (λ n. l.number + n) (number_of (made_landing l.fn.carried l.fn.operands l.fn.kind l.fn.part) (map landing (drop l.number l.fn.landings)));
 }

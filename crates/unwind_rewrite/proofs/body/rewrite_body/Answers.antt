@@ -60,7 +60,7 @@ returns-clause-code c =
     let xs = c.in_ok-found.found in
     let is = premises.planned_context m f plan os xs c.new-context.ensures c.in_ok-locals.ensures c.types.ensures.types c.heights-heights.ensures c.gives-result.ensures c.source-parts.ensures in
     let own = premises.own_landings m f plan b os xs c.types-2.ensures.types c.source-parts.ensures c.as_slice-2.ensures c.in_ok-found.ensures in
-    let shown = premises.own_exposed b os c.as_slice.ensures c.in_ok-guarded.ensures in
+    let shown = premises.own_exposed m b os c.source-parts.ensures c.as_slice.ensures c.in_ok-guarded.ensures in
     premises.is_rewritten m f b here plan c.requires.plan os xs shown own c.new-context.result is c.write_body.result c.write_body.ensures.code
 
 pub returns-clause-promised : goal.returns-clause-promised
