@@ -112,8 +112,8 @@ fn store_of(values: &mut Stack<Value>, shared: &mut Shared, store: Store, offset
         values.new shared.new }
     ensures same { UnlessDone result ((values.new ≡ values.old) × (shared.new ≡ shared.old)) }
 {
-    match (values.peek(0), values.peek(1)) {
-        (Some(v), Some(Value::I32(a))) => match stored_number(store, v) {
+    match (values.peek(1), values.peek(0)) {
+        (Some(Value::I32(a)), Some(v)) => match stored_number(store, v) {
             Some(n) => match &mut shared.memory {
                 Some(memory) => taken(values, 2, store_at(memory, store, address(a, offset), n)),
                 None => Performed::Done,

@@ -135,9 +135,9 @@ pub(crate) fn compare(values: &mut Stack<Value>, t: ValType, op: Compare) -> Per
         → Acts (on_operands (basics.Compare t op) w ls values.old) result w ls values.new }
     ensures done { result ≡ Performed.Done }
 {
-    match values.peek(0) {
-        Some(b) => match values.peek(1) {
-            Some(a) => replace_two(values, numeric::compare(t, op, a, b)),
+    match values.peek(1) {
+        Some(a) => match values.peek(0) {
+            Some(b) => replace_two(values, numeric::compare(t, op, a, b)),
             None => Performed::Done,
         },
         None => Performed::Done,
@@ -171,9 +171,9 @@ pub(crate) fn binary(values: &mut Stack<Value>, t: ValType, op: Binary) -> Perfo
     ensures room { result ≡ Performed.NoMemory → ⊥ }
     ensures same { UnlessDone result (values.new ≡ values.old) }
 {
-    match values.peek(0) {
-        Some(b) => match values.peek(1) {
-            Some(a) => match numeric::binary(t, op, a, b) {
+    match values.peek(1) {
+        Some(a) => match values.peek(0) {
+            Some(b) => match numeric::binary(t, op, a, b) {
                 Some(Ok(v)) => replace_two(values, Some(v)),
                 Some(Err(trap)) => Performed::Trap(trap_of(trap)),
                 None => Performed::Done,

@@ -19,7 +19,7 @@ fn carries(t: Option<ValType>) -> bool
 }
 
 /// Opens a block, in which the instruction at `next` is run next.
-#[inline(never)]
+#[inline(always)]
 fn open(m: &mut CallStack, goes_to: usize, carries: bool, next: usize) -> Stepped
     ensures frames { m.new.frames ≡ m.old.frames }
     ensures becomes { Becomes result m.new (record m.old {

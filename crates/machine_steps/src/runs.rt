@@ -51,15 +51,18 @@ fn steps_in<W: Watch>(
 {
     let code = innermost.code;
     let ops = code.body.ops.as_slice();
-    for i in steps.made..steps.fuel {
+    let mut position = m.stack.position;
+    let mut left = steps.fuel - steps.made;
+    while left > 0 {
         watch.see(standing(m, innermost.frame));
-        match step_in(m, prepared, innermost, ops, depth, told) {
+        match step_in(m, prepared, innermost, ops, depth, &mut position, told) {
             Turn::Straight => {}
             Turn::Came => match *told {
-                Outcome::Import(_) => return i,
-                _ => return i + 1,
+                Outcome::Import(_) => return steps.fuel - left,
+                _ => return steps.fuel - left + 1,
             },
         }
+        left -= 1;
     }
     *told = Outcome::Next;
     steps.fuel
@@ -108,6 +111,8 @@ fn go_on<W: Watch>(
 
 /// At most so many steps, up to the first one that does not go on. `Next` says that the fuel is
 /// spent. A watch sees each step, also that of the call of an import.
+// It is called, as inside of a large function its loop would have no registers left.
+#[inline(never)]
 pub fn run_watched<W: Watch>(
     m: &mut Machine,
     prepared: &Prepared,

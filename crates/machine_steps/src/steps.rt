@@ -4,13 +4,15 @@ ghost use Rattle.std.specs.Prelude.{◌≡◌, ◌+◌, ◌<◌, ◌^◌, IsSome
 ghost use Rattle.std.specs.Option.{option_copied};
 ghost use Rattle.wasm_syntax.specs.Tree.{Plain, Goes, BrTable, Call, CallIndirect, item_of, jump_of};
 ghost use Rattle.wasm_syntax.specs.Machine.{Engine, Config, step};
+ghost use Rattle.wasm_syntax.specs.declared.instruction.Basic.{Basic as Instruction};
+ghost use Rattle.wasm_syntax.specs.declared.instruction.Instr.TheVariants as instructions;
 ghost use Rattle.machine_code.specs.declared.code.Code.{Code as FlatCode};
 ghost use Rattle.machine_steps.specs.calls.FramesMeet.{Point, Reads, CallPlace, step_at, call_at};
 ghost use Rattle.machine_code.specs.calls.Prepares.{IsPrepared};
 ghost use Rattle.machine_steps.specs.calls.Meets.{StandsFor, Here, Meets, MeetsAt, outcome_of};
 ghost use Rattle.machine_steps.specs.declared.machine.Machine.{Machine as Kept};
 ghost use Rattle.machine_steps.specs.inner.Moves.{InFrame, stepped_of};
-ghost use Rattle.machine_steps.specs.inner.Turns.{came_to, Stays};
+ghost use Rattle.machine_steps.specs.inner.Turns.{came_to, Stays, GoesOn};
 
 use crate::blocks::{block, if_, loop_};
 use crate::branches::{branch, branch_if, branch_table, else_, end, inside};
@@ -70,6 +72,7 @@ fn basic(
         → Reads m.old.stack code (Plain instruction.now)
         → MeetsAt x (came_to result told.new) (step_at x) m.new }
     ensures stays { Stays result m.old m.new }
+    ensures goes_on { GoesOn result next m.new }
 {
     match perform(instruction, frame.base, &mut m.stack.values, &mut m.shared) {
         Performed::Done => {
@@ -248,7 +251,7 @@ fn jump(
         Jump::Br(n) => reached(branch(&mut m.stack, frame, code.gives, *n as usize), told),
         Jump::BrIf(n) => reached(branch_if(&mut m.stack, frame, code.gives, *n, next), told),
         Jump::BrTable(start, count, default) => {
-            by_table(m, &frame, code, *start, *count, *default, told)
+            by_table(m, &innermost.frame, code, *start, *count, *default, told)
         }
         Jump::Return => reached(Reach::Beyond(leave(&mut m.stack, code.gives)), told),
         Jump::Unreachable => { reached(Reach::Beyond(Stepped::Trap(TrapKind::Unreachable)), told) }
@@ -263,9 +266,10 @@ fn jump(
     }
 }
 
-/// Runs an instruction in a frame.
-#[inline(always)]
-fn run_op(
+/// Runs an instruction that opens, ends or leaves a block, or jumps. It is called, so that the loop
+/// holds what it needs for the other instructions alone.
+#[inline(never)]
+fn control(
     m: &mut Machine,
     prepared: &Prepared,
     innermost: &Innermost<'_, '_>,
@@ -275,6 +279,7 @@ fn run_op(
     told: &mut Outcome,
 ) -> Turn
     requires next { next ≡ m.old.stack.position + 1 }
+    requires control { (i : Instruction) → instruction.now ≡ instructions.Basic i → ⊥ }
     requires frame { slice_get m.old.stack.frames 0 ≡ Some innermost.now.frame }
     ensures meets { (x : Point) → Here x m.old innermost.now.code.now
         → x.codes ≡ prepared.now.codes.items
@@ -287,13 +292,51 @@ fn run_op(
     let frame = innermost.frame;
     let code = innermost.code;
     match instruction {
-        Instr::Basic(instruction) => basic(m, frame, instruction, next, told),
+        Instr::Basic(_) => unreachable!(),
         Instr::Jump(to) => jump(m, prepared, innermost, to, depth, next, told),
         Instr::Block(t) => reached(inside(block(&mut m.stack, code, *t, next)), told),
         Instr::Loop(_) => reached(inside(loop_(&mut m.stack, next)), told),
         Instr::If(t) => reached(inside(if_(&mut m.stack, code, *t, next)), told),
         Instr::Else => reached(inside(else_(&mut m.stack)), told),
         Instr::End => reached(end(&mut m.stack, frame, code.gives, next), told),
+    }
+}
+
+/// Runs an instruction in a frame. The position that the machine goes on at is told, so that the
+/// loop need not read it from the machine.
+#[inline(always)]
+fn run_op(
+    m: &mut Machine,
+    prepared: &Prepared,
+    innermost: &Innermost<'_, '_>,
+    instruction: &Instr,
+    depth: usize,
+    position: &mut usize,
+    told: &mut Outcome,
+) -> Turn
+    requires position { position.old ≡ m.old.stack.position }
+    requires room { position.old + 1 < 2 ^ 64 }
+    requires frame { slice_get m.old.stack.frames 0 ≡ Some innermost.now.frame }
+    ensures meets { (x : Point) → Here x m.old innermost.now.code.now
+        → x.codes ≡ prepared.now.codes.items
+        → IsPrepared x.engine.program prepared.now → x.engine.depth ≡ depth
+        → Reads m.old.stack innermost.now.code.now
+        (item_of innermost.now.code.now.body.now.targets instruction.now)
+        → MeetsAt x (came_to result told.new) (step_at x) m.new }
+    ensures stays { Stays result m.old m.new }
+    ensures goes_on { GoesOn result position.new m.new }
+{
+    let next = *position + 1;
+    match instruction {
+        Instr::Basic(instruction) => {
+            *position = next;
+            basic(m, innermost.frame, instruction, next, told)
+        }
+        _ => {
+            let turn = control(m, prepared, innermost, instruction, depth, next, told);
+            *position = m.stack.position;
+            turn
+        }
     }
 }
 
@@ -321,8 +364,10 @@ pub(crate) fn step_in(
     innermost: &Innermost<'_, '_>,
     ops: &[Op],
     depth: usize,
+    position: &mut usize,
     told: &mut Outcome,
 ) -> Turn
+    requires position { position.old ≡ m.old.stack.position }
     requires frame { slice_get m.old.stack.frames 0 ≡ Some innermost.now.frame }
     requires code { slice_get prepared.now.codes.items innermost.now.frame.function
         ≡ Some innermost.now.code.now }
@@ -331,12 +376,10 @@ pub(crate) fn step_in(
         → engine.depth ≡ depth → StandsFor engine.program prepared.now.codes.items m.old c
         → Meets engine prepared.now.codes.items c (came_to result told.new) (step engine c) m.new }
     ensures stays { Stays result m.old m.new }
+    ensures goes_on { GoesOn result position.new m.new }
 {
-    match op_at(ops, m.stack.position) {
-        Some(op) => {
-            let next = m.stack.position + 1;
-            run_op(m, prepared, innermost, &op.code, depth, next, told)
-        }
+    match op_at(ops, *position) {
+        Some(op) => run_op(m, prepared, innermost, &op.code, depth, position, told),
         None => {
             tell(Stepped::Stuck, told);
             Turn::Came

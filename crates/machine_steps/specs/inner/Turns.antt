@@ -23,6 +23,11 @@ abbrev pub Stays : Turn → Machine → Machine → Type 0
 Stays Straight m m' = m'.stack.frames ≡ m.stack.frames
 Stays Came m m' = Unit {0}
 
+-- where the next instruction is run, it is the one at this position
+abbrev pub GoesOn : Turn → ℕ → Machine → Type 0
+GoesOn Straight position m = position ≡ m.stack.position
+GoesOn Came position m = Unit {0}
+
 module _ {W : Type 0} (saw : Module → W → List (Option Place) → Type 0) (prepared : Prepared) (depth : ℕ) (m : Machine) (before : W) where
   -- so many steps of a run were made and seen
   pub record Made (n : ℕ) (m' : Machine) (now : W) : Type 0 where

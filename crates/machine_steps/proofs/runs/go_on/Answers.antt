@@ -1,4 +1,4 @@
-use Rattle.std.proofs.Common.{◌≡◌, ◌∙◌, sym, ap, arith}
+use Rattle.std.proofs.Common.{◌∙◌, sym, ap, arith}
 use Rattle.std.specs.Prelude.{slice_get}
 use Rattle.machine_steps.proofs.StepLaws.{no_frame, no_code}
 use Rattle.machine_steps.proofs.StraightLaws.{went_nowhere}
