@@ -9,6 +9,7 @@ use causes::NoMemory;
 use dwarf_entries::standing_at;
 use dwarf_expr::FrameView;
 use dwarf_info::Units;
+use dwarf_scopes::no_locations;
 use linear_memory::Memory;
 use pm_text::Text;
 use std::alloc::Global;
@@ -63,7 +64,7 @@ fn listed(
         return Ok(Shown::NoVariable);
     };
     let mut text = Text::new(alloc);
-    push_variable(alloc, &mut text, frame, &variable)?;
+    push_variable(alloc, &mut text, frame, &variable, &mut no_locations(alloc))?;
     Ok(Shown::Text(text))
 }
 
