@@ -3,7 +3,8 @@
 
 ghost use Rattle.std.specs.Prelude.{◌≡◌, ◌+◌, ◌≤◌, [], length, map, slice_get, Some};
 ghost use Rattle.wasm_syntax.specs.Module.{const_value};
-ghost use Rattle.wasm_syntax.specs.Run.{data_at, element_at, element_fits, i32_or_zero, initial_globals, over, table_min};
+ghost use Rattle.wasm_syntax.specs.Run.{data_at, element_at, element_fits, i32_or_zero};
+ghost use Rattle.wasm_syntax.specs.Run.{initial_globals, over, table_min};
 ghost use Rattle.wasm_syntax.specs.calls.Starting.{initial_value};
 
 use crate::instruction::{Basic, Instr, Op};
