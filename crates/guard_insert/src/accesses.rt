@@ -1,7 +1,7 @@
 //! Guards of accesses to the memory.
 
 ghost use Rattle.std.specs.Prelude.{◌≡◌, ◌+◌, ◌≤◌, OnOk};
-ghost use Rattle.rewrite_bodies.specs.calls.Guards.{memory_length, past_end, out_test};
+ghost use Rattle.rewrite_bodies.specs.calls.Guards.{past_end, out_test};
 ghost use Rattle.rewrite_bodies.specs.calls.Guards.{guard_memory, range_test, guard_copy};
 ghost use Rattle.rewrite_bodies.specs.calls.Guards.{guard_fill};
 ghost use Rattle.rewrite_code.specs.calls.Writing.{Emits};
@@ -21,32 +21,25 @@ pub(crate) fn above(context: &FunctionContext<'_, '_>, height: usize, count: usi
     height + count
 }
 
-/// The length of the memory in bytes, as an i64.
-fn memory_length(writer: &mut CodeWriter) -> Result<(), NoMemory>
-    ensures { OnOk result (Emits memory_length writer.old writer.new) }
-{
-    writer.basic(Basic::MemorySize)?;
-    writer.basic(Basic::Convert(Convert::ExtendU))?;
-    // A page has 2 ^ 16 bytes, and the shift is spelled in fewer bytes than the product.
-    writer.const_value(Value::I64(16))?;
-    writer.basic(Basic::Binary(ValType::I64, Binary::Shl))
-}
-
 /// Whether the i64 on top is past the end of the memory.
-fn past_end(writer: &mut CodeWriter) -> Result<(), NoMemory>
-    ensures { OnOk result (Emits past_end writer.old writer.new) }
+fn past_end(context: &FunctionContext<'_, '_>, writer: &mut CodeWriter) -> Result<(), NoMemory>
+    ensures { OnOk result (Emits (past_end context.now.source) writer.old writer.new) }
 {
-    memory_length(writer)?;
+    context.get_length(writer)?;
     writer.basic(Basic::Compare(ValType::I64, Compare::GtU))
 }
 
 /// Whether so many bytes from the address on top pass the end: whether it is greater than the
 /// length less these bytes, which an engine can keep through a loop.
-fn out_test(writer: &mut CodeWriter, count: u64) -> Result<(), NoMemory>
-    ensures { OnOk result (Emits (out_test count) writer.old writer.new) }
+fn out_test(
+    context: &FunctionContext<'_, '_>,
+    writer: &mut CodeWriter,
+    count: u64,
+) -> Result<(), NoMemory>
+    ensures { OnOk result (Emits (out_test context.now.source count) writer.old writer.new) }
 {
     writer.basic(Basic::Convert(Convert::ExtendU))?;
-    memory_length(writer)?;
+    context.get_length(writer)?;
     writer.const_value(Value::I64(count))?;
     writer.basic(Basic::Binary(ValType::I64, Binary::Sub))?;
     writer.basic(Basic::Compare(ValType::I64, Compare::GtS))
@@ -65,7 +58,7 @@ pub(crate) fn guard_memory(
         writer.new) }
 {
     context.fetch(writer, address, height)?;
-    out_test(writer, count)
+    out_test(context, writer, count)
 }
 
 /// Whether so many bytes from an address on pass the end. Both operands have their heights.
@@ -84,7 +77,7 @@ fn range_test(
     context.fetch(writer, count.0, count.1)?;
     writer.basic(Basic::Convert(Convert::ExtendU))?;
     writer.basic(Basic::Binary(ValType::I64, Binary::Add))?;
-    past_end(writer)
+    past_end(context, writer)
 }
 
 /// Of `memory.copy`. Where to is at this height, and above it are where from and the length.

@@ -24,7 +24,7 @@ use wasm_syntax::{Basic, Binary, Load, Store, ValType, Value};
 
 /// Whether the instruction at an offset of a function has a guard: where it can trap, and nothing
 /// answers for it.
-fn needs(context: &FunctionContext<'_, '_>, offset: u32, instruction: &Basic) -> bool
+pub fn needs(context: &FunctionContext<'_, '_>, offset: u32, instruction: &Basic) -> bool
     ensures { result ≡ needs context.now offset instruction.now }
 {
     can_trap(instruction) && context.is_exposed(offset)

@@ -7,5 +7,5 @@ mod choice;
 mod division;
 mod entries;
 
-pub use choice::{guard, guarded, kind};
+pub use choice::{guard, guarded, kind, needs};
 pub use entries::{guard_entry, guard_unreachable};

@@ -106,7 +106,7 @@ few m sized =
     let f = distinct_few (bodies_used m.bodies) in
     let g = wrapped_few m in
     let whole : contents m ≤ 134217720 = omega (arith, contents_least m, sized.no_shorter, sized.within_limit) in
-    record { functions = omega (arith, a, b, d, e, f, g, whole, sized.within_limit); globals = omega (arith, c, whole) }
+    record { functions = omega (arith, a, b, d, e, f, g, whole, sized.within_limit); globals = omega (arith, c, whole); added = omega (arith, c, whole) }
 
 pub can_be : (m : Module) → Valid m → Sized m → CanBeNumbered m
 can_be m v s = record { few = few m s; types_there = valid_below m v; functions_there = functions_below m v; wrappers_light = wrappers_fit m s; places_few = places_fit m s }

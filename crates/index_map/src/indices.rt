@@ -9,6 +9,7 @@ ghost use Rattle.wasm_syntax.specs.Run.{table_min};
 ghost use Rattle.rewrite_bodies.specs.Numbering.{doubles, element_functions, flag_of, frame_import, helped};
 ghost use Rattle.rewrite_bodies.specs.Numbering.{helper_base, is_in, mapped, place_in, shown, value_import, wrapped};
 ghost use Rattle.rewrite_bodies.specs.Numbering.{wrapper_base};
+ghost use Rattle.rewrite_bodies.specs.calls.Guards.{length_of};
 ghost use Rattle.rewrite_modules.specs.calls.Instrument.{new_exports, new_start};
 ghost use Rattle.rewrite_modules.specs.Weight.{types_used};
 ghost use Rattle.index_map.specs.calls.Wrapper.{HasWrapper, wrapper_of};
@@ -23,7 +24,7 @@ use std::alloc::Global;
 use std::marker::Model;
 use wasm_syntax::{Module, ModuleParts, ValType};
 
-/// Where functions, the flag, helpers and what a host sees of the table stand in the rewriting of a
+/// Where functions, the added globals, helpers and what a host sees of the table stand in the rewriting of a
 /// module. Contracts see it as the module.
 #[derive(Drop)]
 pub struct IndexMap<'a> {
@@ -150,6 +151,13 @@ impl<'a> IndexMap<'a> {
         ensures { result ≡ flag_of self.now }
     {
         self.parts.globals.len() as u32
+    }
+
+    /// The global behind it, which has the length of the memory in bytes.
+    pub fn length(&self) -> u32
+        ensures { result ≡ length_of self.now }
+    {
+        self.parts.globals.len() as u32 + 1
     }
 
     /// Whether the table is twice as long, for a host that sees it: its first half is for the host,

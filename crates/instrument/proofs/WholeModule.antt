@@ -6,7 +6,6 @@ use Rattle.wasm_syntax.specs.declared.parts.Global.{Global}
 use Rattle.wasm_syntax.specs.declared.parts.Body.{Body}
 use Rattle.wasm_syntax.specs.declared.module.ModuleParts.{ModuleParts as Module}
 use Rattle.wasm_syntax.specs.declared.place.Place.TheVariants.{ElementAt}
-use Rattle.wasm_syntax.specs.declared.value.ValType.TheVariants.{I32}
 use Rattle.wasm_syntax.specs.Module.{Program, IsModule, IsExpression, function_types}
 use Rattle.wasm_syntax.specs.Sizes.{WithinLimits}
 use Rattle.wasm_syntax.specs.Valid.{Valid, There, AtIndex, ElementFine}
@@ -17,7 +16,7 @@ use Rattle.wasm_syntax.specs.Run.{table_min, element_at}
 use Rattle.rewrite_bodies.specs.Numbering.{mapped, doubles, wrapped, helped}
 use Rattle.wasm_syntax.specs.SameCode.{body_code, global_code, element_code, code_alone}
 use Rattle.rewrite_modules.specs.calls.Given.{Given}
-use Rattle.rewrite_modules.specs.calls.Instrument.{wrapper_type, number_init, zero_init, shown_element, inner_element, shown_elements, new_module}
+use Rattle.rewrite_modules.specs.calls.Instrument.{wrapper_type, number_init, flag_global, length_global, shown_element, inner_element, shown_elements, new_module}
 use Rattle.rewrite_modules.specs.Instrumentable.{program_of}
 use Rattle.rewrite_modules.specs.Weight.{types_used}
 use Rattle.rewrite_modules.proofs.Modules.{module_given}
@@ -32,7 +31,7 @@ use Rattle.rewrite_promise.specs.calls.Layers.{Layered}
 use Rattle.rewrite_promise.proofs.Layered.{layered}
 use Rattle.index_map.proofs.Trees.{helped_used}
 use Rattle.instrument.specs.calls.Assembly.{AreBodies}
-use Rattle.instrument.specs.inner.Parts.{ElementThere, number_code, written_element, written_elements, flag, new_parts}
+use Rattle.instrument.specs.inner.Parts.{ElementThere, number_code, written_element, written_elements, flag, measure, new_parts}
 use Rattle.instrument.proofs.Trees.{valid_trees, all_in_order}
 use Rattle.rewrite_modules.proofs.EncodedLengths.{contents_least}
 
@@ -142,17 +141,14 @@ module _ (m : Module) (bodies : List Body) (are : AreBodies m bodies) where
   abbrev with_types : List ℕ → List ℕ
   with_types us = m.functions ++ (map (wrapper_type m) (wrapped m) ++ map (λ u. length m.types + 3) us)
 
-  abbrev zero_flag : Global
-  zero_flag = record { vtype = I32; mutable = true; init = zero_init }
-
   made_same : code_alone new ≡ code_alone made
   made_same = same functions globals elements (sym are.code)
     where
       functions : with_types (helped p) ≡ with_types (types_used m)
       functions = ap with_types used
 
-      globals : map global_code (m.globals ++ zero_flag ∷ []) ≡ map global_code (m.globals ++ flag ∷ [])
-      globals = map-append global_code m.globals (zero_flag ∷ []) ∙ sym (map-append global_code m.globals (flag ∷ []))
+      globals : map global_code (m.globals ++ flag_global ∷ length_global m ∷ []) ≡ map global_code (m.globals ++ flag ∷ measure m ∷ [])
+      globals = map-append global_code m.globals (flag_global ∷ length_global m ∷ []) ∙ sym (map-append global_code m.globals (flag ∷ measure m ∷ []))
 
       written : (q : Bool) (e : ElementSeg) → element_code (record { table = e.table; offset = if q then number_init (element_at m e + table_min m.tables) else e.offset; functions = map (mapped m) e.functions }) ≡ element_code (record { table = e.table; offset = if q then number_code (element_at m e + table_min m.tables) else e.offset; functions = map (mapped m) e.functions })
       written false e = refl

@@ -5,7 +5,9 @@ ghost use Rattle.wasm_syntax.specs.declared.value.ValType.TheVariants.{I32, I64}
 ghost use Rattle.rewrite_bodies.specs.calls.Guards.{helper_type};
 ghost use Rattle.rewrite_bodies.specs.Numbering.{frame_type, value_type};
 ghost use Rattle.rewrite_modules.specs.Collector.{collector_import};
-ghost use Rattle.instrument.specs.inner.Parts.{flag, more_imports, more_types, number_code};
+ghost use Rattle.rewrite_modules.specs.calls.Instrument.{memory_min};
+ghost use Rattle.instrument.specs.inner.Parts.{flag, measure, more_imports, more_types};
+ghost use Rattle.instrument.specs.inner.Parts.{number_code, value_code};
 
 use crate::copies::duplicates;
 use causes::NoMemory;
@@ -73,18 +75,25 @@ fn placed(at: u32, code: Instr) -> Op
     Op { at, len: 0, code }
 }
 
-/// The constant expression of a number (Core 3.3.7), with numbers in place of offsets.
-pub(crate) fn number_code(alloc: Global, number: u32) -> Result<Body, NoMemory>
-    ensures { IfOk result (λ body. body ≡ number_code number) }
+/// The constant expression of a value (Core 3.3.7), with numbers in place of offsets.
+fn value_code(alloc: Global, value: Value) -> Result<Body, NoMemory>
+    ensures { IfOk result (λ body. body ≡ value_code value) }
 {
-    let value = Instr::Basic(Basic::Const(Value::I32(number)));
-    let ops = Items::from_slice(alloc, &[placed(0, value), placed(1, Instr::End)])?;
+    let code = Instr::Basic(Basic::Const(value));
+    let ops = Items::from_slice(alloc, &[placed(0, code), placed(1, Instr::End)])?;
     Ok(Body {
         groups: Items::new(alloc),
         ops,
         targets: Items::new(alloc),
         start: 0,
     })
+}
+
+/// The constant expression of a number.
+pub(crate) fn number_code(alloc: Global, number: u32) -> Result<Body, NoMemory>
+    ensures { IfOk result (λ body. body ≡ number_code number) }
+{
+    value_code(alloc, Value::I32(number))
 }
 
 /// The flag, which is down at first.
@@ -98,11 +107,35 @@ fn new_flag(alloc: Global) -> Result<GlobalPart, NoMemory>
     })
 }
 
-/// The globals of the module, and behind them the flag.
+/// How many pages the memory has at the start; 0 where there is none.
+fn memory_min(parts: &ModuleParts) -> u32
+    ensures { result ≡ memory_min parts.now.memories }
+{
+    match parts.memories.as_slice() {
+        [] => 0,
+        [limits, ..] => limits.min,
+    }
+}
+
+/// The global of the memory's length in bytes, which is that at the start.
+fn new_length(alloc: Global, parts: &ModuleParts) -> Result<GlobalPart, NoMemory>
+    ensures { IfOk result (λ global. global ≡ measure parts.now) }
+{
+    let pages = memory_min(parts) as u64;
+    Ok(GlobalPart {
+        vtype: ValType::I64,
+        mutable: true,
+        init: value_code(alloc, Value::I64(65_536 * pages))?,
+    })
+}
+
+/// The globals of the module, and behind them the flag and the length of the memory.
 pub(crate) fn new_globals(alloc: Global, parts: &ModuleParts) -> Result<Globals, NoMemory>
-    ensures { IfOk result (λ globals. globals ≡ parts.now.globals ++ flag ∷ []) }
+    ensures { IfOk result (λ globals. globals
+        ≡ parts.now.globals ++ flag ∷ measure parts.now ∷ []) }
 {
     let mut globals = duplicates(alloc, &parts.globals)?;
     globals.push(new_flag(alloc)?)?;
+    globals.push(new_length(alloc, parts)?)?;
     Ok(globals)
 }

@@ -9,7 +9,7 @@ use Rattle.wasm_syntax.specs.Module.{type_at}
 use Rattle.rewrite_bodies.specs.calls.Slots.{Place, Spilled, Ctx, less, grown, under, after_plain}
 use Rattle.rewrite_bodies.specs.Numbering.{import_count, mapped}
 use Rattle.rewrite_bodies.specs.calls.Pieces.{call, keep, spill}
-use Rattle.rewrite_bodies.specs.calls.Rewrite.{plain, control, call_code, indirect_code, after_direct, rewrite}
+use Rattle.rewrite_bodies.specs.calls.Rewrite.{passes, plain, with_result, control, call_code, indirect_code, after_direct, rewrite}
 use Rattle.rewrite_bodies.specs.calls.Typed.{end_gives}
 use Rattle.rewrite_bodies.specs.calls.Agreement.{Room, Room_jump, Room_call}
 use Rattle.rewrite_bodies.proofs.Sim.{room_height}
@@ -18,7 +18,7 @@ use Rattle.operand_spill.specs.declared.labels.Label.TheVariants as kept
 use Rattle.operand_spill.specs.declared.labels.OpenBlock.{OpenBlock}
 use Rattle.operand_spill.specs.calls.Labels.{info}
 use Rattle.operand_spill.specs.calls.Walking.{Walking, walking, with_places, opened, at_start, opening, behind_block, alternating_in, alternating, closing_in, closing}
-use Rattle.operand_spill.specs.calls.Standing.{Due, before_end, before_else, flat, Armed, depth_in, Fine, IsLast, Around, rest_of, due, Stands, Leaves, Comes, Rewrites, Left}
+use Rattle.operand_spill.specs.calls.Standing.{Due, before_end, before_else, flat, Armed, Passes, depth_in, Fine, IsLast, Around, rest_of, due, Stands, Leaves, Comes, Rewrites, Left}
 use Rattle.operand_spill.proofs.Shapes.{Begins, Shape, shape}
 use Rattle.rewrite_bodies.proofs.Control.{grown_longer}
 
@@ -78,9 +78,9 @@ module _ (C : Ctx) (code : List Placed) (start : Written) (whole : Nodes) where
   pub point_room : (pc : ℕ) (w : Walking) (now : Written) → Point pc w now → length w.places ≤ C.slots
   point_room pc w now r = room_height C w.places r.nodes r.stands.fine.room
 
-  pub step_basic : (pc : ℕ) (w : Walking) (now next : Written) (o : ℕ) (i : Basic) → Begins code pc o (Plain i) →
-      Emits (λ k. plain C (depth_in w) w.places o i (λ es. k)) now next → Point pc w now → Point (suc pc) (with_places w (after_plain C w.places i)) next
-  step_basic pc w now next o i b e r =
+  pub step_basic : (pc : ℕ) (w : Walking) (now next : Written) (o : ℕ) (i : Basic) (p : Bool) → Begins code pc o (Plain i) → Passes C (drop (suc pc) code) p →
+      Emits (λ k. plain C (depth_in w) w.places o i p (λ es. k)) now next → Point pc w now → Point (suc pc) (with_places w (after_plain C w.places i)) next
+  step_basic pc w now next o i p b passing e r =
       let h = here pc w now r o (Plain i) b in
       let a = at pc w now r (basic o i h.0) h.1 in
       let places = after_plain C w.places i in
@@ -98,6 +98,7 @@ module _ (C : Ctx) (code : List Placed) (start : Written) (whole : Nodes) where
         comes = record {
           comes = λ behind.
               a.comes.comes behind
+              ∙ ap (λ q. goes now (plain C (depth_in w) w.places o i q (λ es. rewrite C (depth_in w) es h.0)) (more ++ behind)) (sym (passing h.0 r.dues h.2))
               ∙ e.emitted (rewrite C (depth_in w) places h.0) (more ++ behind);
         };
       }
@@ -105,11 +106,11 @@ module _ (C : Ctx) (code : List Placed) (start : Written) (whole : Nodes) where
   -- ---- jumps behind which the next instruction is run
 
   -- behind such a jump, whose code goes on over these places
-  goes_on : (pc : ℕ) (w : Walking) (now next : Written) (o : ℕ) (j : Jump) (places : List Place) → Begins code pc o (Goes j) →
+  goes_on : (pc : ℕ) (w : Walking) (now next : Written) (o : ℕ) (j : Jump) (p : Bool) (places : List Place) → Begins code pc o (Goes j) → Passes C (drop (suc pc) code) p →
       ((go : List Place → Type 0) → Room_jump C j w.places go → go places) →
-      ((go : List Place → Nodes) (behind : List Behind) → goes now (control C (depth_in w) w.places o j go) behind ≡ goes next (go places) behind) →
+      ((go : List Place → Nodes) (behind : List Behind) → goes now (control C (depth_in w) w.places o j p go) behind ≡ goes next (go places) behind) →
       Point pc w now → Point (suc pc) (with_places w places) next
-  goes_on pc w now next o j places b room piece r =
+  goes_on pc w now next o j p places b passing room piece r =
       let h = here pc w now r o (Goes j) b in
       let a = at pc w now r (jump o j h.0) h.1 in
       let more : List Behind = due C w.opens r.dues in
@@ -124,47 +125,49 @@ module _ (C : Ctx) (code : List Placed) (start : Written) (whole : Nodes) where
           shallow = omega (arith, r.stands.shallow);
         };
         comes = record {
-          comes = λ behind. a.comes.comes behind ∙ piece (λ es. rewrite C (depth_in w) es h.0) (more ++ behind);
+          comes = λ behind. a.comes.comes behind
+              ∙ ap (λ q. goes now (control C (depth_in w) w.places o j q (λ es. rewrite C (depth_in w) es h.0)) (more ++ behind)) (sym (passing h.0 r.dues h.2))
+              ∙ piece (λ es. rewrite C (depth_in w) es h.0) (more ++ behind);
         };
       }
 
-  pub step_branch_if : (pc : ℕ) (w : Walking) (now next : Written) (o l : ℕ) → Begins code pc o (Goes (BrIf l)) → Emits (λ k. jump 0 (BrIf l) k) now next → Point pc w now →
+  pub step_branch_if : (pc : ℕ) (w : Walking) (now next : Written) (o l : ℕ) (p : Bool) → Begins code pc o (Goes (BrIf l)) → Passes C (drop (suc pc) code) p → Emits (λ k. jump 0 (BrIf l) k) now next → Point pc w now →
       Point (suc pc) (with_places w (less 1 w.places)) next
-  step_branch_if pc w now next o l b e r = goes_on pc w now next o (BrIf l) (less 1 w.places) b (λ go room. room) (λ go behind. e.emitted (go (less 1 w.places)) behind) r
+  step_branch_if pc w now next o l p b passing e r = goes_on pc w now next o (BrIf l) p (less 1 w.places) b passing (λ go room. room) (λ go behind. e.emitted (go (less 1 w.places)) behind) r
 
-  direct_goes : (b : Bool) (d : ℕ) (t : Option ValType) (es : List Place) (o : ℕ) (go : List Place → Nodes) → after_direct b C d t es o go ≡ after_direct b C d t es o (λ left. go (grown t es))
-  direct_goes true d t es o go = refl
-  direct_goes false d t es o go = refl
+  direct_goes : (b : Bool) (d : ℕ) (t : Option ValType) (es : List Place) (o : ℕ) (p : Bool) (go : List Place → Nodes) → after_direct b C d t es o p go ≡ after_direct b C d t es o p (λ left. go (grown t es))
+  direct_goes true d t es o p go = refl
+  direct_goes false d t es o p go = refl
 
-  call_goes : (d : ℕ) (es : List Place) (o f : ℕ) (type : FuncType) (go : List Place → Nodes) →
-      call_code C d es o f (Some type) go ≡ call_code C d es o f (Some type) (λ left. go (grown (result_of type) (less (length type.params) es)))
-  call_goes d es o f type go =
-      ap (λ code. call (mapped C.source f) code) (direct_goes (nat_lt f (import_count C.source)) d (result_of type) (less (length type.params) es) o go)
+  call_goes : (d : ℕ) (es : List Place) (o f : ℕ) (type : FuncType) (p : Bool) (go : List Place → Nodes) →
+      call_code C d es o f (Some type) p go ≡ call_code C d es o f (Some type) p (λ left. go (grown (result_of type) (less (length type.params) es)))
+  call_goes d es o f type p go =
+      ap (λ code. call (mapped C.source f) code) (direct_goes (nat_lt f (import_count C.source)) d (result_of type) (less (length type.params) es) o p go)
 
-  pub step_call : (pc : ℕ) (w : Walking) (now next : Written) (o f : ℕ) (type : FuncType) → Begins code pc o (Goes (Call f)) → type_at C.source f ≡ Some type →
-      Emits (λ k. call_code C (depth_in w) w.places o f (Some type) (λ left. k)) now next → Point pc w now →
+  pub step_call : (pc : ℕ) (w : Walking) (now next : Written) (o f : ℕ) (type : FuncType) (p : Bool) → Begins code pc o (Goes (Call f)) → Passes C (drop (suc pc) code) p → type_at C.source f ≡ Some type →
+      Emits (λ k. call_code C (depth_in w) w.places o f (Some type) p (λ left. k)) now next → Point pc w now →
       Point (suc pc) (with_places w (grown (result_of type) (less (length type.params) w.places))) next
-  step_call pc w now next o f type b is e r =
+  step_call pc w now next o f type p b passing is e r =
       let places = grown (result_of type) (less (length type.params) w.places) in
-      goes_on pc w now next o (Call f) places b
+      goes_on pc w now next o (Call f) p places b passing
       (λ go room. let z : Room_call C (Some type) w.places go = subst (λ q. Room_call C q w.places go) is room in z.1)
       (λ go behind.
-      ap (λ q. goes now (call_code C (depth_in w) w.places o f q go) behind) is
-      ∙ ap (λ n. goes now n behind) (call_goes (depth_in w) w.places o f type go)
+      ap (λ q. goes now (call_code C (depth_in w) w.places o f q p go) behind) is
+      ∙ ap (λ n. goes now n behind) (call_goes (depth_in w) w.places o f type p go)
       ∙ e.emitted (go places) behind) r
 
-  pub step_call_indirect : (pc : ℕ) (w : Walking) (now next : Written) (o t : ℕ) (type : FuncType) (p : Place) (es : List Place) → Begins code pc o (Goes (CallIndirect t)) →
+  pub step_call_indirect : (pc : ℕ) (w : Walking) (now next : Written) (o t : ℕ) (type : FuncType) (p : Place) (es : List Place) (q : Bool) → Begins code pc o (Goes (CallIndirect t)) → Passes C (drop (suc pc) code) q →
       w.places ≡ p ∷ es → slice_get C.source.types t ≡ Some type → Emits (λ k. indirect_code C (depth_in w) (p ∷ es) o t (Some type) (λ left. k)) now next → Point pc w now →
       Point (suc pc) (with_places w (grown (result_of type) (less (length type.params) es))) next
-  step_call_indirect pc w now next o t type p es b top is e r =
+  step_call_indirect pc w now next o t type p es q b passing top is e r =
       let places = grown (result_of type) (less (length type.params) es) in
-      goes_on pc w now next o (CallIndirect t) places b
+      goes_on pc w now next o (CallIndirect t) q places b passing
       (λ go room.
       let y : Room_jump C (CallIndirect t) (p ∷ es) go = subst (λ z. Room_jump C (CallIndirect t) z go) top room in
       let z : Room_call C (Some type) es go = subst (λ q. Room_call C q es go) is y.1 in z.1)
       (λ go behind.
-      ap (λ z. goes now (control C (depth_in w) z o (CallIndirect t) go) behind) top
-      ∙ ap (λ q. goes now (indirect_code C (depth_in w) (p ∷ es) o t q go) behind) is
+      ap (λ z. goes now (control C (depth_in w) z o (CallIndirect t) q go) behind) top
+      ∙ ap (λ y. goes now (indirect_code C (depth_in w) (p ∷ es) o t y go) behind) is
       ∙ e.emitted (go places) behind) r
 
   -- ---- the end of a list
@@ -191,10 +194,10 @@ module _ (C : Ctx) (code : List Placed) (start : Written) (whole : Nodes) where
 
   -- a jump behind which nothing of its list is run
   pub step_transfer : (pc to : ℕ) (w : Walking) (now next : Written) (o : ℕ) (j : Jump) → Begins code pc o (Goes j) → EndsAt pc to → pc ≤ to →
-      ((go : List Place → Nodes) → EmitsLast (control C (depth_in w) w.places o j go) now next) → Point pc w now → EndPoint to w next
+      ((p : Bool) (go : List Place → Nodes) → EmitsLast (control C (depth_in w) w.places o j p go) now next) → Point pc w now → EndPoint to w next
   step_transfer pc to w now next o j b end le e r =
       let h = here pc w now r o (Goes j) b in
-      list_left pc to w now next end le r (subst (λ n. EmitsLast (rewrite C (depth_in w) w.places n) now next) (sym h.1) (e (λ es. rewrite C (depth_in w) es h.0)))
+      list_left pc to w now next end le r (subst (λ n. EmitsLast (rewrite C (depth_in w) w.places n) now next) (sym h.1) (e (passes C h.0) (λ es. rewrite C (depth_in w) es h.0)))
 
   -- `else` or `end`, where no node is left
   list_ended : (pc : ℕ) (w : Walking) (now : Written) (r : Point pc w now) → r.nodes ≡ stop → EndPoint pc w now
@@ -350,18 +353,18 @@ module _ (C : Ctx) (code : List Placed) (start : Written) (whole : Nodes) where
           }
 
   -- the end of a block, but not of the body
-  pub close : (pc : ℕ) (w : Walking) (now next : Written) (o : ℕ) → Begins code pc o End → suc pc < length code →
+  pub close : (pc : ℕ) (w : Walking) (now next : Written) (o : ℕ) (p : Bool) → Begins code pc o End → suc pc < length code → Passes C (drop (suc pc) code) p →
       ((block_ : OpenBlock) (others : List OpenBlock) → w.opens ≡ block_ ∷ others → (k : Nodes) (behind : List Behind) →
-      goes now stop (ends (keep C (option_map Spilled (end_gives (info block_.label))) block_.saved k) ∷ behind) ≡ goes next k behind) →
+      goes now stop (ends (keep p C (option_map Spilled (end_gives (info block_.label))) block_.saved k) ∷ behind) ≡ goes next k behind) →
       EndPoint pc w now → Point (suc pc) (closing w) next
-  close pc w now next o b lt e r =
+  close pc w now next o p b lt passing e r =
       let h = left_here pc w now r o End b in
       by w.opens r.dues h.1 h.2 h.3 h.4 r.leaves.around r.leaves.shallow (λ behind. r.comes.comes behind) e
     where
       by : (opens : List OpenBlock) (dues : List Due) (rest : Nodes) (below : List Due) → dues ≡ before_end o rest ∷ below → drop (suc pc) code ≡ write rest (flat below) →
           Around C opens dues → length opens ≤ pc → ((behind : List Behind) → goes start whole behind ≡ goes now stop (due C opens dues ++ behind)) →
           ((block_ : OpenBlock) (others : List OpenBlock) → opens ≡ block_ ∷ others → (k : Nodes) (behind : List Behind) →
-          goes now stop (ends (keep C (option_map Spilled (end_gives (info block_.label))) block_.saved k) ∷ behind) ≡ goes next k behind) →
+          goes now stop (ends (keep p C (option_map Spilled (end_gives (info block_.label))) block_.saved k) ∷ behind) ≡ goes next k behind) →
           Point (suc pc) (closing_in (walking w.gives w.places opens) opens) next
       by [] dues rest below d k around le comes e =
           let last : (rest ≡ stop) × (below ≡ []) = subst IsLast d around in
@@ -376,6 +379,7 @@ module _ (C : Ctx) (code : List Placed) (start : Written) (whole : Nodes) where
             comes = record {
               comes = λ behind.
                   comes behind ∙ ap (λ ds. goes now stop (due C (x ∷ xs) ds ++ behind)) d
+                  ∙ ap (λ q. goes now stop (ends (with_result C (end_gives (info x.label)) x.saved q (λ es. rewrite C (suc (length xs)) es rest)) ∷ (due C xs below ++ behind))) (sym (passing rest below k))
                   ∙ e x xs refl (rewrite C (suc (length xs)) (behind_block x) rest) (due C xs below ++ behind);
             };
           }

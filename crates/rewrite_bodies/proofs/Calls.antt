@@ -1,5 +1,5 @@
 -- Calls, traps, and the whole step.
-use Rattle.std.proofs.Common.{◌≡◌, ℕ, zero, suc, ◌+◌, ◌*◌, ◌≤◌, List, [], ◌∷◌, ◌++◌, length, map, reverse, Option, Some, None, Bool, true, false, ◌&&◌, nat_lt, refl, sym, ap, ap₂, ◌∙◌, subst, arith, append_assoc, append-nil, length-append, ◌⊎◌, inl, inr, slice_get, slice_set, option_to_list, option_map, ltb-true, lt-ltb, unwrap_or, ◌≢◌, ◌==◌, Ok, ◌<◌}
+use Rattle.std.proofs.Common.{◌≡◌, ℕ, zero, suc, ◌+◌, ◌*◌, ◌≤◌, List, [], ◌∷◌, ◌++◌, length, map, reverse, Option, Some, None, Bool, true, false, ◌&&◌, nat_lt, nat_le, refl, sym, ap, ap₂, ◌∙◌, subst, arith, append_assoc, append-nil, length-append, ◌⊎◌, inl, inr, slice_get, slice_set, option_to_list, option_map, ltb-true, lt-ltb, unwrap_or, ◌≢◌, ◌==◌, Ok, ◌<◌}
 use Rattle.wasm_syntax.specs.declared.value.ValType.{ValType}
 use Rattle.wasm_syntax.specs.declared.value.ValType.TheVariants.{I32}
 use Rattle.wasm_syntax.specs.declared.value.Value.{Value}
@@ -23,33 +23,35 @@ use Rattle.wasm_syntax.specs.declared.host.CollectorCall.{CollectorCall}
 use Rattle.wasm_syntax.specs.declared.host.CollectorCall.TheVariants as collector_calls
 use Rattle.wasm_syntax.specs.Machine.{Kind, leaves, returns, Label, Frame, Config, label, frame, config, Engine, Stepped, next, traps, Cut, short, parts, one_more, cut, exactly, pick, zero_of, zeros, result_of, function_type, entered, host_call, deliver, host, enters, applied_if, calls_on, calls, step, offset_in, top}
 use Rattle.rewrite_bodies.specs.calls.Slots.{Place, Spilled, Ctx, slot, kind_at, offset_at, added, less, grown, ctx_of, Landing}
-use Rattle.rewrite_bodies.specs.calls.Rewrite.{hand, hand_top, to_exit, hand_left, test_flag, test_both, unwind, unwind_kind, after_direct, call_code, helper_of, past_shown, rewrite, body}
-use Rattle.rewrite_bodies.specs.Numbering.{import_count, mapped, place_in, global_types, helper_base, helped, doubles}
+use Rattle.rewrite_bodies.specs.calls.Rewrite.{hand, hand_top, to_exit, hand_left, test_flag, test_both, unwind, unwind_kind, passes, after_direct, call_code, helper_of, past_shown, rewrite, body}
+use Rattle.rewrite_bodies.specs.Numbering.{import_count, mapped, place_in, global_types, helper_base, helped, doubles, flag_of}
 use Rattle.rewrite_bodies.proofs.Doubled.{past, entry_past, entry_low}
 use Rattle.rewrite_bodies.specs.calls.Pieces.{get, set, const, call, if_any, fetch, load, keep, store, reload, drops, tree_of}
 use Rattle.linear_memory.specs.Memory.{Memory}
 use Rattle.linear_memory.specs.Memory as memories
-use Rattle.rewrite_bodies.specs.calls.Agreement.{Holds, now, joined, Wit, UnderWay, t_frame, FitsIn, Has, Room_call, Room, FitsLabels, MemoryFits, NoKind, WorldFits, FitsFrame, FitsFrames, Wrap, zero_vs, t_frames, flagged}
+use Rattle.rewrite_bodies.specs.calls.Agreement.{Holds, now, joined, Wit, UnderWay, t_frame, FitsIn, Has, Room_call, Room, FitsLabels, FitsOpen, MemoryFits, NoKind, WorldFits, FitsFrame, FitsFrames, Wrap, zero_vs, t_frames, flagged, byte_count}
 use Rattle.rewrite_bodies.specs.calls.Steps.{Gets, To, Shell, st}
-use Rattle.rewrite_bodies.proofs.Run.{stored, stored_other, kind_no_slot, slice_get-put_other, added_get, added_set, types-stored, slice_get-put_same, types-slice_set, added_kind, more_parts, one_step, seq, weaken, push_to, still, fetch_to, load_to, less_holds, store_to, kept_to, reload_to, drops_to, cut_front, added_offset}
+use Rattle.rewrite_bodies.proofs.Run.{stored_other, kind_no_slot, slice_get-put_other, added_get, added_set, slice_get-put_same, types-slice_set, added_kind, more_parts, one_step, seq, weaken, push_to, still, fetch_to, load_to, less_holds, store_to, reload_to, drops_to, cut_front, added_offset}
+use Rattle.rewrite_bodies.proofs.Passing.{loosened, as_open, kept_all, open_marked, stored_unless, types_unless, arrived, kept_unless}
 use Rattle.rewrite_bodies.proofs.Parts.{put_keeps, cut_all, fits_put, settle, step_plain}
-use Rattle.rewrite_bodies.specs.calls.Guards.{helper, entry_label, says, first_table}
+use Rattle.rewrite_bodies.specs.calls.Guards.{renew, helper, entry_label, says, first_table}
 use Rattle.rewrite_bodies.specs.calls.Telling.{tell_labels, tell_locals, tell_frame, tell_ops}
 use Rattle.std.proofs.lemmas.List.{map-append}
 use Rattle.rewrite_bodies.specs.calls.Standing.{Linked, Speaks, HelperLinked, Stands}
-use Rattle.rewrite_bodies.proofs.Sim.{refit, refit_under, room_height, grown-append, grown_fits, len_of, shell, tgt, wit, wit_under, armed, if_zero_to}
-use Rattle.rewrite_bodies.proofs.Control.{flag_len, flag_down, both_to, grown_longer}
+use Rattle.rewrite_bodies.proofs.Sim.{refit, refit_under, room_height, grown-append, grown_fits, len_of, flag_len, shell, tgt, wit, wit_under, armed, if_zero_to}
+use Rattle.rewrite_bodies.proofs.Control.{flag_down, both_to, grown_longer}
+use Rattle.rewrite_bodies.proofs.Measures.{renew_to}
 use Rattle.rewrite_bodies.proofs.Unwind.{frame_out, Hands, hand_to, hand_left_to, Up, up_all, renamed, AllIn, landed_out}
 use Rattle.wasm_syntax.specs.declared.host.Write.{Write}
 use Rattle.wasm_laws.proofs.Progress.{types_append, zero_types, same_of}
 use Rattle.wasm_syntax.proofs.Types.{same_type_is, same_types_are, same_functype_refl}
 use Rattle.rewrite_bodies.proofs.Laid.{few_landings, room_landed, into_body}
 use Rattle.rewrite_bodies.specs.calls.Landings.{number_of, landing_behind, landings_from, with_landings, landed, part_of}
-use Rattle.rewrite_bodies.proofs.Landed.{exit_branch, marked, types_marked, fits_marked}
+use Rattle.rewrite_bodies.proofs.Landed.{exit_branch, marked, types_marked}
 use Rattle.rewrite_bodies.specs.inner.Promises.{Comes}
 use Rattle.rewrite_bodies.specs.calls.Facts.{exposed_in}
-use Rattle.rewrite_bodies.proofs.Longer.{least_longer, writes_longer}
-use Rattle.rewrite_bodies.specs.calls.Known.{nodes_of}
+use Rattle.rewrite_bodies.proofs.Longer.{least_longer, put_fits, writes_longer}
+use Rattle.rewrite_bodies.specs.calls.Known.{HasLeast, nodes_of}
 
 -- the locals of a function that is called on these arguments
 pub types-locals : (args : List Value) (ps ls : List ValType) → types args ≡ ps → types (args ++ zeros ls) ≡ ps ++ ls
@@ -115,10 +117,24 @@ writes_keep (Some m) (w ∷ ws) k' e h = by_put (memories.put m w.at w.bytes) re
     by_put None p e ih = absurd (cc)
     by_put (Some m') p e ih = ih m' e (put_keeps m m' w.at w.bytes p h)
 
+-- its length stays
+writes_stay : (k : Option Memory) (ws : List Write) (k' : Option Memory) → after_writes k ws ≡ Some k' → byte_count k' ≡ byte_count k
+writes_stay k [] k' e = let z : k ≡ k' = cc in ap byte_count (sym z)
+writes_stay None (w ∷ ws) k' e = absurd (cc)
+writes_stay (Some m) (w ∷ ws) k' e = by_put (memories.put m w.at w.bytes) refl e (λ m'. writes_stay (Some m') ws k')
+  where
+    by_put : (o : Option Memory) → memories.put m w.at w.bytes ≡ o → option_then o (λ m'. after_writes (Some m') ws) ≡ Some k' → ((m' : Memory) → after_writes (Some m') ws ≡ Some k' → byte_count k' ≡ length m'.bytes) → byte_count k' ≡ length m.bytes
+    by_put None p e ih = absurd (cc)
+    by_put (Some m') p e ih = ih m' e ∙ (put_fits m m' w.at w.bytes (nat_le (w.at + length w.bytes) (length m.bytes)) refl p).0
+
 module _ (M : Engine) (gl : List ValType) (b : Value) (call : HostCall) (w : World) (wf : WorldFits M gl w) where
   written_rel : (reply : Reply) (left : List Reply) (o : Option (Option Memory)) → fits_type call.result reply.value ≡ true → after_writes w.memory reply.writes ≡ o → AnswerRel M gl call.result b (if_written call reply left w o) (if_written call reply left (flagged M w b) o)
   written_rel reply left None ft e = refl
-  written_rel reply left (Some k) ft e = (refl, record { globals = wf.globals; memory = writes_keep w.memory reply.writes k e wf.memory; least = least_longer M.program.module_.memories w.memory k (writes_longer w.memory reply.writes k e) wf.least; table = wf.table }, fits_result call.result reply.value ft)
+  written_rel reply left (Some k) ft e = (
+    ap (λ (n : ℕ). replied (record { globals = w.globals ++ b ∷ values.I64 n ∷ []; memory = k; table = (flagged M w b).table; replies = left; served = record { call = call; reply = reply } ∷ w.served }) reply.value) (sym (writes_stay w.memory reply.writes k e)),
+    record { globals = wf.globals; memory = writes_keep w.memory reply.writes k e wf.memory; least = least_longer M.program.module_.memories w.memory k (writes_longer w.memory reply.writes k e) wf.least; table = wf.table },
+    fits_result call.result reply.value ft,
+  )
 
   fits_rel : (reply : Reply) (left : List Reply) (q : Bool) → fits_type call.result reply.value ≡ q → AnswerRel M gl call.result b (if_fits call reply left w q) (if_fits call reply left (flagged M w b) q)
   fits_rel reply left false ft = refl
@@ -169,19 +185,23 @@ module _ (M M' : Engine) (E : ℕ) (gl : List ValType) (W : Wrap) (S : Stands M 
     size : length C.locals ≡ length l
     size = len_of l C.locals f.size
 
+    -- where no operand passes
+    all_fit : passes C N ≡ false → FitsLabels C l ex None (LL ∷ Ls) (e ∷ ss)
+    all_fit p = kept_all C l ex LL Ls e ss p f.labels
+
     -- a verdict is a trap, and this code hands over the operands of this frame: it hands over its values, and then the others do
-    trap_out : (t : Config) (j : ℕ) (k : Nodes) (s ex1 : List Value) (H : Nodes) → types ex1 ≡ added C.slots → slice_get ex1 (kind_at C) ≡ Some (values.I32 (suc j)) → Hands M' C sp M l (leaves None) (armed X k s).below X.frames g 0 co (ls + length C.landings) H (LL ∷ Ls) (slice_set ex1 (offset_at C) (values.I32 o)) → To M' 1 (C.slots + 40) t (st (armed X k s) (l ++ ex1) [] (const (values.I32 o) (set C (offset_at C) H)) g0 co) → Comes M M' E gl W t (traps (suc j) (config (FF ∷ Fs) g co))
-    trap_out t j k s ex1 H room kd hands pre =
+    trap_out : passes C N ≡ false → (t : Config) (j : ℕ) (k : Nodes) (s ex1 : List Value) (H : Nodes) → types ex1 ≡ added C.slots → slice_get ex1 (kind_at C) ≡ Some (values.I32 (suc j)) → Hands M' C sp M l (leaves None) (armed X k s).below X.frames g 0 co (ls + length C.landings) H (LL ∷ Ls) (slice_set ex1 (offset_at C) (values.I32 o)) → To M' 1 (C.slots + 40) t (st (armed X k s) (l ++ ex1) [] (const (values.I32 o) (set C (offset_at C) H)) g0 co) → Comes M M' E gl W t (traps (suc j) (config (FF ∷ Fs) g co))
+    trap_out p t j k s ex1 H room kd hands pre =
         let X1 = armed X k s in
-        let v3 = frame_out M' C sp M l f.size ex1 (LL ∷ Ls) (ls + length C.landings) X1.kind X1.below X1.frames g 0 co o (suc j) H room kd gt (exit_branch C l ex None s k LL Ls e ss f.labels) hands in
+        let v3 = frame_out M' C sp M l f.size ex1 (LL ∷ Ls) (ls + length C.landings) X1.kind X1.below X1.frames g 0 co o (suc j) H room kd gt (exit_branch C l ex None s k LL Ls e ss (all_fit p)) hands in
         let all : Gets M' 1 E t (deliver M' (zero_vs C.result) X.frames (flagged M g (values.I32 1)) (collector_calls.Frame (suc j) C.index o (length C.locals) ∷ tell_locals l (tell_labels (LL ∷ Ls) co))) = weaken M' (seq M' pre v3) (omega arith) (omega (arith, f.small)) in
         let up : Up M M' E gl W S.speaks t 1 E r Fs ws g (tell_frame (suc j) o FF co) = renamed M M' E gl W S.speaks t 1 E C.result r C.index ix (length C.locals) (length l) o (suc j) X.frames g (tell_locals l (tell_labels (LL ∷ Ls) co)) f.result f.idx size all in
         inr (wf, weaken M' (up_all M M' E gl W S.speaks Fs ws g (tell_frame (suc j) o FF co) t 1 E r fs wf up) (omega arith) (omega arith))
 
     -- the kind that a guard gave, inside its arm
-    pub trap_from : (t : Config) (j : ℕ) (k : Nodes) → To M' 1 30 t (st (armed X k ops) (l ++ ex) (values.I32 (suc j) ∷ []) (unwind_kind C ls es o) g0 co) → Comes M M' E gl W t (traps (suc j) (config (FF ∷ Fs) g co))
-    trap_from t j k pre =
-        let h = f.labels in
+    pub trap_from : passes C N ≡ false → (t : Config) (j : ℕ) (k : Nodes) → To M' 1 30 t (st (armed X k ops) (l ++ ex) (values.I32 (suc j) ∷ []) (unwind_kind C ls es o) g0 co) → Comes M M' E gl W t (traps (suc j) (config (FF ∷ Fs) g co))
+    trap_from p t j k pre =
+        let h = all_fit p in
         let at : slice_get (types ex) (kind_at C) ≡ Some I32 = rw f.room (added_kind C.slots) in
         let v = values.I32 (suc j) in
         let ex1 = slice_set ex (kind_at C) v in
@@ -191,16 +211,16 @@ module _ (M M' : Engine) (E : ℕ) (gl : List ValType) (W : Wrap) (S : Stands M 
         let h2 = fits_put C l ex1 None (LL ∷ Ls) (e ∷ ss) (offset_at C) (values.I32 o) (omega (arith, low)) h1 in
         let X1 = armed X k ops in
         let hands : Hands M' C sp M l X1.kind X1.below X1.frames g 0 co (ls + length C.landings) (hand C es (to_exit C ls)) (LL ∷ Ls) (slice_set ex1 (offset_at C) (values.I32 o)) = weaken M' (hand_to M' C sp l size (slice_set ex1 (offset_at C) (values.I32 o)) None (LL ∷ Ls) (e ∷ ss) (to_exit C ls) h2) (omega arith) (omega (arith, low)) in
-        trap_out t j k ops ex1 (hand C es (to_exit C ls)) (types-slice_set ex (kind_at C) I32 v at refl ∙ f.room) (slice_get-put_same ex (kind_at C) I32 v at) hands (weaken M' (seq M' pre v1) (omega arith) (omega arith))
+        trap_out p t j k ops ex1 (hand C es (to_exit C ls)) (types-slice_set ex (kind_at C) I32 v at refl ∙ f.room) (slice_get-put_same ex (kind_at C) I32 v at) hands (weaken M' (seq M' pre v1) (omega arith) (omega arith))
 
     -- or the frame is left for a landing, the topmost operands along with the branch
-    pub trap_landed : (t : Config) (j : ℕ) (k : Nodes) (x : Landing) (n : ℕ) (vs others : List Value) → number_of x C.landings ≡ Some n → x.kind ≡ suc j → top x.carried ops ≡ Some vs → ((ex2 : List Value) → FitsLabels C l ex2 None (LL ∷ Ls) (e ∷ ss) → AllIn l ex2 others x.places) → length x.places ≤ C.slots → tell_ops (vs ++ others) co ≡ tell_labels (LL ∷ Ls) co → To M' 1 30 t (st X (l ++ slice_set ex (offset_at C) (values.I32 o)) (values.I32 1 ∷ ops) (jump 0 (BrIf (ls + n)) k) g0 co) → Comes M M' E gl W t (traps (suc j) (config (FF ∷ Fs) g co))
-    trap_landed t j k x n vs others is kind top_is places few told_ pre =
+    pub trap_landed : passes C N ≡ false → (t : Config) (j : ℕ) (k : Nodes) (x : Landing) (n : ℕ) (vs others : List Value) → number_of x C.landings ≡ Some n → x.kind ≡ suc j → top x.carried ops ≡ Some vs → ((ex2 : List Value) → FitsLabels C l ex2 None (LL ∷ Ls) (e ∷ ss) → AllIn l ex2 others x.places) → length x.places ≤ C.slots → tell_ops (vs ++ others) co ≡ tell_labels (LL ∷ Ls) co → To M' 1 30 t (st X (l ++ slice_set ex (offset_at C) (values.I32 o)) (values.I32 1 ∷ ops) (jump 0 (BrIf (ls + n)) k) g0 co) → Comes M M' E gl W t (traps (suc j) (config (FF ∷ Fs) g co))
+    trap_landed p t j k x n vs others is kind top_is places few told_ pre =
         let low = room_height C es N f.labels.2 in
         let at : slice_get (types ex) (offset_at C) ≡ Some I32 = rw f.room (added_offset C.slots) in
         let exm = slice_set ex (offset_at C) (values.I32 o) in
         let roomm : types exm ≡ added C.slots = types-slice_set ex (offset_at C) I32 (values.I32 o) at refl ∙ f.room in
-        let hm = fits_put C l ex None (LL ∷ Ls) (e ∷ ss) (offset_at C) (values.I32 o) (omega (arith, low)) f.labels in
+        let hm = fits_put C l ex None (LL ∷ Ls) (e ∷ ss) (offset_at C) (values.I32 o) (omega (arith, low)) (all_fit p) in
         let hk = fits_put C l exm None (LL ∷ Ls) (e ∷ ss) (kind_at C) (values.I32 x.kind) (omega (arith, low)) hm in
         let out = landed_out M' C sp M l f.size exm LL Ls e ss x n X.frames g 0 co o 0 ops vs others k None hm roomm (slice_get-put_same ex (offset_at C) I32 (values.I32 o) at) gt is top_is (places (slice_set exm (kind_at C) (values.I32 x.kind)) hk) few in
         let all_ : Gets M' 1 E t (deliver M' (zero_vs C.result) X.frames (flagged M g (values.I32 1)) (collector_calls.Frame x.kind C.index o (length C.locals) ∷ tell_locals l (tell_ops (vs ++ others) co))) = weaken M' (seq M' pre out) (omega arith) (omega (arith, f.small)) in
@@ -225,12 +245,12 @@ module _ (M M' : Engine) (E : ℕ) (gl : List ValType) (W : Wrap) (S : Stands M 
       lies_under (Some u) = []
 
       abbrev k1_of : Bool → Option UnderWay → Nodes
-      k1_of q None = after_direct q C ls r1 es1 o (λ es'. rewrite C ls es' rest)
+      k1_of q None = after_direct q C ls r1 es1 o (passes C rest) (λ es'. rewrite C ls es' rest)
       k1_of q (Some u) = store C r1 es1 stop
 
       abbrev Y_of : Option UnderWay → Shell
       Y_of None = X
-      Y_of (Some u) = armed X (test_both C ls es1 o u.others (drops (length u.taken) (reload C r1 es1 goes_on))) (u.taken ++ below)
+      Y_of (Some u) = armed X (test_both C ls es1 o u.others (drops (length u.taken) (renew C.source (reload C r1 es1 goes_on)))) (u.taken ++ below)
 
       abbrev k1 : Nodes
       k1 = k1_of dq others
@@ -244,9 +264,14 @@ module _ (M M' : Engine) (E : ℕ) (gl : List ValType) (W : Wrap) (S : Stands M 
       abbrev Below : Type 0
       Below = FitsLabels C l ex1 r1 (label below rest en kd ∷ Ls) (e' ∷ ss)
 
+      -- its results pass to what is behind a direct call
+      abbrev pass_of : Option UnderWay → Bool
+      pass_of None = passes C rest
+      pass_of (Some u) = false
+
       -- the added locals when it has given its results
-      abbrev after_of : List Value → List Value
-      after_of vs' = stored r1 (λ t. slot t (length es1)) vs' ex1
+      abbrev after_of : Option UnderWay → List Value → List Value
+      after_of u vs' = stored_unless (pass_of u) r1 (λ t. slot t (length es1)) vs' ex1
 
       -- and behind the test of the flag, where there is one
       abbrev marks : Bool → Option UnderWay → List Value → List Value
@@ -260,11 +285,17 @@ module _ (M M' : Engine) (E : ℕ) (gl : List ValType) (W : Wrap) (S : Stands M 
       types_marks false (Some u) ex2 room = refl
       types_marks true (Some u) ex2 room = refl
 
-      fits_marks : (q : Bool) (u : Option UnderWay) (ex2 : List Value) (Ls' : List Label) (ss' : List (List Place)) → length (joined ss') ≤ C.slots → FitsLabels C l ex2 None Ls' ss' → FitsLabels C l (marks q u ex2) None Ls' ss'
-      fits_marks false None ex2 Ls' ss' low h = fits_marked (number_of (landing_behind (part_of C.locals o) es1) C.landings) C o l ex2 None Ls' ss' low h
-      fits_marks true None ex2 Ls' ss' low h = h
-      fits_marks false (Some u) ex2 Ls' ss' low h = h
-      fits_marks true (Some u) ex2 Ls' ss' low h = h
+      fits_marks : (q : Bool) (u : Option UnderWay) (ex2 : List Value) (L' : Label) (Ls' : List Label) (e2 : List Place) (ss' : List (List Place)) → length (e2 ++ joined ss') ≤ C.slots → FitsOpen C l ex2 None (L' ∷ Ls') (e2 ∷ ss') → FitsOpen C l (marks q u ex2) None (L' ∷ Ls') (e2 ∷ ss')
+      fits_marks false None ex2 L' Ls' e2 ss' low h = open_marked (number_of (landing_behind (part_of C.locals o) es1) C.landings) C o l ex2 L' Ls' e2 ss' low h
+      fits_marks true None ex2 L' Ls' e2 ss' low h = h
+      fits_marks false (Some u) ex2 L' Ls' e2 ss' low h = h
+      fits_marks true (Some u) ex2 L' Ls' e2 ss' low h = h
+
+      -- what is there when they are kept, or pass
+      settled : (u : Option UnderWay) (vs' : List Value) → types ex1 ≡ added C.slots → exactly r1 vs' ≡ Some vs' → Below → FitsOpen C l (after_of u vs') None (label (vs' ++ below) rest en kd ∷ Ls) (grown r1 e' ∷ ss)
+      settled None vs' room x hb = arrived (passes C rest) C l ex1 r1 (label below rest en kd) Ls e' ss vs' refl room x hb
+      settled (Some u) vs' room x hb =
+          as_open C l (after_of (Some u) vs') (label (vs' ++ below) rest en kd) Ls (grown r1 e') ss (settle C l ex1 r1 (label below rest en kd) Ls e' ss vs' room x hb)
 
       -- where the target stands when the function has given its results
       come_back : (g' : World) (vs' : List Value) (t : Config) → types ex1 ≡ types ex → NoKind C ex1 others → Below → WorldFits M gl g' → exactly r1 vs' ≡ Some vs' → (q : ℕ) → q ≤ 2 * C.slots + 40 → To M' 1 q t (st Y (l ++ ex1) (vs' ++ lies_under others) k1 (flagged M g' (values.I32 0)) co) → Comes M M' E gl W t (next (config (frame ix r cl l (label (vs' ++ below) rest en kd ∷ Ls) ∷ Fs) g' co))
@@ -272,13 +303,13 @@ module _ (M M' : Engine) (E : ℕ) (gl : List ValType) (W : Wrap) (S : Stands M 
       come_back g' vs' t same nk hb wf' x q le pre =
           let room1 = same ∙ f.room in
           let pl = grown_fits C r1 es1 ex1 room1 hb.1 in
-          let hs = settle C l ex1 r1 (label below rest en kd) Ls e' ss vs' room1 x hb in
+          let hs = settled others vs' room1 x hb in
           let g1 = flagged M g' (values.I32 0) in
-          let ts = types-stored r1 (λ t. slot t (length es1)) vs' ex1 pl x ∙ same in
-          let ex2 = marks dq others (after_of vs') in
-          let tm = types_marks dq others (after_of vs') (ts ∙ f.room) ∙ ts in
-          let hm = fits_marks dq others (after_of vs') (label (vs' ++ below) rest en kd ∷ Ls) (grown r1 e' ∷ ss) (room_height C (grown r1 e' ++ joined ss) rest hs.2) hs in
-          let go : To M' 1 (3 * C.slots + 53) t (st X (l ++ ex2) (vs' ++ below) goes_on g1 co) = weaken M' (seq M' pre (behind others nk dq)) (omega arith) (omega (arith, le)) in (
+          let ts = types_unless (pass_of others) r1 (λ t. slot t (length es1)) vs' ex1 pl x ∙ same in
+          let ex2 = marks dq others (after_of others vs') in
+          let tm = types_marks dq others (after_of others vs') (ts ∙ f.room) ∙ ts in
+          let hm = fits_marks dq others (after_of others vs') (label (vs' ++ below) rest en kd) Ls (grown r1 e') ss (room_height C (grown r1 e' ++ joined ss) rest hs.2) hs in
+          let go : To M' 1 (3 * C.slots + 58) t (st X (l ++ ex2) (vs' ++ below) goes_on g1 co) = weaken M' (seq M' pre (behind others nk dq)) (omega arith) (omega (arith, le)) in (
             wit C ex2 (grown r1 e' ∷ ss) ∷ ws,
             (wf', (refit l (label (vs' ++ below) rest en kd ∷ Ls) ex2 (grown r1 e' ∷ ss) None cl f refl tm hm, fs)),
             rw (← grown-append r1 e' (joined ss)) (weaken M' go (omega arith) (omega (arith, f.small))),
@@ -287,30 +318,43 @@ module _ (M M' : Engine) (E : ℕ) (gl : List ValType) (W : Wrap) (S : Stands M 
           low : length es1 ≤ C.slots
           low = omega (arith, grown_longer r1 es1, room_height C (grown r1 es1) rest hb.2)
 
-          -- behind a direct call
-          kept_here : (k : Nodes) → To M' 0 1 (st X (l ++ ex1) (vs' ++ below) (keep C (option_map Spilled r1) es1 k) (flagged M g' (values.I32 0)) co) (st X (l ++ (after_of vs')) (vs' ++ below) k (flagged M g' (values.I32 0)) co)
-          kept_here k = kept_to M' C l size ex1 r1 es1 vs' below k (grown_fits C r1 es1 ex1 (same ∙ f.room) hb.1) x
+          fl' : flag_of C.source ≡ length g'.globals
+          fl' = flag_len C g' (wf'.globals ∙ sym f.flag)
 
-          through : (u : UnderWay) → NoKind C ex1 (Some u) → To M' 0 (C.slots + 13) (st (Y_of (Some u)) (l ++ ex1) (vs' ++ []) (store C r1 es1 stop) (flagged M g' (values.I32 0)) co) (st X (l ++ (after_of vs')) (vs' ++ below) goes_on (flagged M g' (values.I32 0)) co)
+          least' : HasLeast C.source.memories g'.memory
+          least' = subst (λ z. HasLeast z.memories g'.memory) (sym f.funcs) wf'.least
+
+          -- behind a direct call
+          kept_here : (k : Nodes) → To M' 0 1 (st X (l ++ ex1) (vs' ++ below) (keep (passes C rest) C (option_map Spilled r1) es1 k) (flagged M g' (values.I32 0)) co) (st X (l ++ after_of None vs') (vs' ++ below) k (flagged M g' (values.I32 0)) co)
+          kept_here k = kept_unless M' C l size (passes C rest) ex1 r1 es1 vs' below k (grown_fits C r1 es1 ex1 (same ∙ f.room) hb.1) x
+
+          through : (u : UnderWay) → NoKind C ex1 (Some u) → To M' 0 (C.slots + 18) (st (Y_of (Some u)) (l ++ ex1) (vs' ++ []) (store C r1 es1 stop) (flagged M g' (values.I32 0)) co) (st X (l ++ (after_of (Some u) vs')) (vs' ++ below) goes_on (flagged M g' (values.I32 0)) co)
           through u nk =
-              let kd0 : slice_get (after_of vs') (kind_at C) ≡ Some (values.I32 0) = stored_other r1 (λ t. slot t (length es1)) vs' ex1 (kind_at C) (λ t. kind_no_slot C (length es1) t low) ∙ nk.0 in
-              let kr = drops (length u.taken) (reload C r1 es1 goes_on) in
+              let kd0 : slice_get (after_of (Some u) vs') (kind_at C) ≡ Some (values.I32 0) = stored_other r1 (λ t. slot t (length es1)) vs' ex1 (kind_at C) (λ t. kind_no_slot C (length es1) t low) ∙ nk.0 in
+              let back = reload C r1 es1 goes_on in
+              let kn = renew C.source back in
+              let kr = drops (length u.taken) kn in
               let K = test_both C ls es1 o u.others kr in
               let g1 = flagged M g' (values.I32 0) in
               let all_ = u.taken ++ below in
               let pl = grown_fits C r1 es1 ex1 (same ∙ f.room) hb.1 in
-              let s1 : To M' 0 1 (st (armed X K all_) (l ++ ex1) vs' (store C r1 es1 stop) g1 co) (st (armed X K all_) (l ++ (after_of vs')) [] stop g1 co) = store_to M' C l size ex1 r1 es1 vs' stop pl x in
-              let s2 : To M' 1 1 (st (armed X K all_) (l ++ (after_of vs')) [] stop g1 co) (st X (l ++ (after_of vs')) all_ K g1 co) = one_step M' _ _ refl in
-              let s3 = both_to M M' E gl W C X l (after_of vs') all_ g' co ls es1 o u.others kr 0 0 0 size kd0 (flag_len C g' (wf'.globals ∙ sym f.flag)) refl in
-              let s4 : To M' (length u.taken) (length u.taken) (st X (l ++ (after_of vs')) all_ kr g1 co) (st X (l ++ (after_of vs')) below (reload C r1 es1 goes_on) g1 co) = drops_to M' (length u.taken) all_ u.taken below (reload C r1 es1 goes_on) (cut_front u.taken below) in
-              let s5 : To M' 0 1 (st X (l ++ (after_of vs')) below (reload C r1 es1 goes_on) g1 co) (st X (l ++ (after_of vs')) (vs' ++ below) goes_on g1 co) = reload_to M' C l size ex1 r1 es1 vs' below goes_on pl x in
+              let s1 : To M' 0 1 (st (armed X K all_) (l ++ ex1) vs' (store C r1 es1 stop) g1 co) (st (armed X K all_) (l ++ (after_of (Some u) vs')) [] stop g1 co) = store_to M' C l size ex1 r1 es1 vs' stop pl x in
+              let s2 : To M' 1 1 (st (armed X K all_) (l ++ (after_of (Some u) vs')) [] stop g1 co) (st X (l ++ (after_of (Some u) vs')) all_ K g1 co) = one_step M' _ _ refl in
+              let s3 = both_to M M' E gl W C X l (after_of (Some u) vs') all_ g' co ls es1 o u.others kr 0 0 0 size kd0 fl' refl in
+              let s4 : To M' (length u.taken) (length u.taken) (st X (l ++ (after_of (Some u) vs')) all_ kr g1 co) (st X (l ++ (after_of (Some u) vs')) below kn g1 co) = drops_to M' (length u.taken) all_ u.taken below kn (cut_front u.taken below) in
+              let s4b : To M' 0 5 (st X (l ++ (after_of (Some u) vs')) below kn g1 co) (st X (l ++ (after_of (Some u) vs')) below back g1 co) = renew_to M' M C.source X (l ++ (after_of (Some u) vs')) below back g' co (values.I32 0) fl' C.source.memories least' wf'.memory in
+              let s5 : To M' 0 1 (st X (l ++ (after_of (Some u) vs')) below back g1 co) (st X (l ++ (after_of (Some u) vs')) (vs' ++ below) goes_on g1 co) = reload_to M' C l size ex1 r1 es1 vs' below goes_on pl x in
               let alone : vs' ++ [] ≡ vs' = append-nil vs' in
-              rw alone (weaken M' (seq M' s1 (seq M' s2 (seq M' s3 (seq M' (if_zero_to M') (seq M' s4 s5))))) (omega arith) (omega (arith, nk.1)))
+              rw alone (weaken M' (seq M' s1 (seq M' s2 (seq M' s3 (seq M' (if_zero_to M') (seq M' s4 (seq M' s4b s5)))))) (omega arith) (omega (arith, nk.1)))
 
-          behind : (under : Option UnderWay) → NoKind C ex1 under → (q : Bool) → To M' 0 (C.slots + 13) (st (Y_of under) (l ++ ex1) (vs' ++ lies_under under) (k1_of q under) (flagged M g' (values.I32 0)) co) (st X (l ++ marks q under (after_of vs')) (vs' ++ below) goes_on (flagged M g' (values.I32 0)) co)
-          behind None nk true = weaken M' (kept_here goes_on) (omega arith) (omega arith)
+          behind : (under : Option UnderWay) → NoKind C ex1 under → (q : Bool) → To M' 0 (C.slots + 18) (st (Y_of under) (l ++ ex1) (vs' ++ lies_under under) (k1_of q under) (flagged M g' (values.I32 0)) co) (st X (l ++ marks q under (after_of under vs')) (vs' ++ below) goes_on (flagged M g' (values.I32 0)) co)
+          behind None nk true =
+              let kept = keep (passes C rest) C (option_map Spilled r1) es1 goes_on in
+              let g1 = flagged M g' (values.I32 0) in
+              let s1 : To M' 0 5 (st X (l ++ ex1) (vs' ++ below) (renew C.source kept) g1 co) (st X (l ++ ex1) (vs' ++ below) kept g1 co) = renew_to M' M C.source X (l ++ ex1) (vs' ++ below) kept g' co (values.I32 0) fl' C.source.memories least' wf'.memory in
+              weaken M' (seq M' s1 (kept_here goes_on)) (omega arith) (omega arith)
           behind None nk false =
-              weaken M' (seq M' (kept_here (test_flag C ls es1 o goes_on)) (flag_down M M' E gl W C X l (after_of vs') (vs' ++ below) g' co ls es1 o goes_on size (types-stored r1 (λ t. slot t (length es1)) vs' ex1 (grown_fits C r1 es1 ex1 (same ∙ f.room) hb.1) x ∙ same ∙ f.room) (flag_len C g' (wf'.globals ∙ sym f.flag)))) (omega arith) (omega arith)
+              weaken M' (seq M' (kept_here (test_flag C ls es1 o goes_on)) (flag_down M M' E gl W C X l (after_of None vs') (vs' ++ below) g' co ls es1 o goes_on size (types_unless (passes C rest) r1 (λ t. slot t (length es1)) vs' ex1 (grown_fits C r1 es1 ex1 (same ∙ f.room) hb.1) x ∙ same ∙ f.room) fl')) (omega arith) (omega arith)
           behind (Some u) nk false = through u nk
           behind (Some u) nk true = through u nk
 
@@ -365,9 +409,9 @@ module _ (M M' : Engine) (E : ℕ) (gl : List ValType) (W : Wrap) (S : Stands M 
         let s1 : To M' 1 n t mid = rw (depth, locals) at (pre k) in
         let s3 : To M' 0 25 mid (config (t_frame now (entered g' b tree type args) (wit C' ex' ([] ∷ [])) ∷ stands_under Z ex1 (lies_under ex1 below e' rest (defined b tree type) vs dq others others) code) g0 co) = into_body M' (mapped M.program.module_ g') (result_of type) ((args ++ zeros (declared_locals b.groups)) ++ ex') (stands_under Z ex1 (lies_under ex1 below e' rest (defined b tree type) vs dq others others) code) g0 co C' tree.nodes few_ in
         let callee : FitsFrame M E gl None (entered g' b tree type args) (wit C' ex' ([] ∷ [])) =
-        record { size = types-locals args type.params (declared_locals b.groups) ty; room = zero_types (added k.slots); idx = refl; result = refl; funcs = refl; base = refl; helpers = refl; flag = ap global_types (sym f.funcs) ∙ f.flag; small = k.small; exposed = ap (λ q. exposed_in M.program.module_.memories (nodes_of q)) (sym at); narrow = k.narrow; labels = (tt, tt, room_landed C0 os (landings_from C1 [] tree.nodes []) [] tree.nodes k.room, refl, tt); no_kind = tt } in (
+        record { size = types-locals args type.params (declared_locals b.groups) ty; room = zero_types (added k.slots); idx = refl; result = refl; funcs = refl; base = refl; helpers = refl; flag = ap global_types (sym f.funcs) ∙ f.flag; small = k.small; exposed = ap (λ q. exposed_in M.program.module_.memories (nodes_of q)) (sym at); narrow = k.narrow; labels = (loosened (passes C' tree.nodes) (args ++ zeros (declared_locals b.groups)) ex' [] [] [] tt, tt, room_landed C0 os (landings_from C1 [] tree.nodes []) [] tree.nodes k.room, refl, tt); no_kind = tt } in (
           wit C' ex' ([] ∷ []) ∷ wit_under C ex1 (e' ∷ ss) others ∷ ws,
-          (wf, (callee, (refit_under l (label below rest en kd ∷ Ls) ex1 (e' ∷ ss) others (result_of type) o f refl same hb nk, fs))),
+          (wf, (callee, (refit_under l (label below rest en kd ∷ Ls) ex1 (e' ∷ ss) others (Some (result_of type)) o f refl same hb nk, fs))),
           subst (λ z. To M' 1 E t (config (t_frame now (entered g' b tree type args) (wit C' ex' ([] ∷ [])) ∷ z) g0 co)) (frames_under ex1 below e' rest b tree type vs dq others df) (weaken M' (seq M' s1 s3) (omega arith) (omega (arith, le, f.small))),
         )
 
@@ -415,7 +459,7 @@ module _ (M M' : Engine) (E : ℕ) (gl : List ValType) (W : Wrap) (S : Stands M 
     direct_fits (imported i type) at_ = tt
     direct_fits (defined b tree type) at_ = S.undirect g' b tree type at_
 
-    cut_call : (fn : Function) (u : Cut) → function_at M.program g' ≡ Some fn → cut (length (function_type fn).params) ops ≡ u → FitsIn C (result_of (function_type fn)) (less (length (function_type fn).params) esd) × Room C (grown (result_of (function_type fn)) (less (length (function_type fn).params) esd)) rest → Comes M M' E gl W (st XD (l ++ ex) ops (call (mapped M.program.module_ g') (after_direct (nat_lt g' (import_count M.program.module_)) C lsd (result_of (function_type fn)) (less (length (function_type fn).params) esd) at (λ es'. rewrite C lsd es' rest))) (flagged M g (values.I32 0)) co) (calls_on M fn g' u at rest FD LD Ls Fs g co)
+    cut_call : (fn : Function) (u : Cut) → function_at M.program g' ≡ Some fn → cut (length (function_type fn).params) ops ≡ u → FitsIn C (result_of (function_type fn)) (less (length (function_type fn).params) esd) × Room C (grown (result_of (function_type fn)) (less (length (function_type fn).params) esd)) rest → Comes M M' E gl W (st XD (l ++ ex) ops (call (mapped M.program.module_ g') (after_direct (nat_lt g' (import_count M.program.module_)) C lsd (result_of (function_type fn)) (less (length (function_type fn).params) esd) at (passes C rest) (λ es'. rewrite C lsd es' rest))) (flagged M g (values.I32 0)) co) (calls_on M fn g' u at rest FD LD Ls Fs g co)
     cut_call fn short at_ c rm = tt
     cut_call fn (parts vs below) at_ c rm =
         let h = f.labels in
@@ -424,7 +468,7 @@ module _ (M M' : Engine) (E : ℕ) (gl : List ValType) (W : Wrap) (S : Stands M 
         let lh = less_holds l ex m (joined ss) e ops vs below h.0 c in
         let e' = lh.0 in
         let dq = nat_lt g' (import_count M.program.module_) in
-        let k = after_direct dq C lsd r1 (e' ++ joined ss) at (λ es'. rewrite C lsd es' rest) in
+        let k = after_direct dq C lsd r1 (e' ++ joined ss) at (passes C rest) (λ es'. rewrite C lsd es' rest) in
         let code = call (mapped M.program.module_ g') k in
         let g0 = flagged M g (values.I32 0) in
         let hb : FitsLabels C l ex r1 (label below rest en kd ∷ Ls) (e' ∷ ss) = (lh.2, subst (FitsIn C r1) lh.1 rm.0, subst (λ z. Room C (grown r1 z) rest) lh.1 rm.1, h.3, h.4) in
@@ -432,7 +476,7 @@ module _ (M M' : Engine) (E : ℕ) (gl : List ValType) (W : Wrap) (S : Stands M 
         rw lh.1 (called C ex e ss ws ix cl r l ops en kd Ls Fs g co (jump at (Call g') rest) f fs wf ex below e' rest fn vs dq None g' ops code T T 0 (same_types (types (reverse vs)) (function_type fn).params) ops at_ (direct_fits fn at_) c refl tt hb (omega arith) refl (still M' T) refl)
 
     abbrev code_with : FuncType → Module → Nodes
-    code_with type m = call (mapped m g') (after_direct (nat_lt g' (import_count m)) C lsd (result_of type) (less (length type.params) esd) at (λ es'. rewrite C lsd es' rest))
+    code_with type m = call (mapped m g') (after_direct (nat_lt g' (import_count m)) C lsd (result_of type) (less (length type.params) esd) at (passes C rest) (λ es'. rewrite C lsd es' rest))
 
     pub call_node : (q : Option Function) → function_at M.program g' ≡ q → Comes M M' E gl W (tgt M W C ex e ss ws r l ops kd Ls Fs g co (jump at (Call g') rest)) (calls M q g' ops at rest FD LD Ls Fs g co)
     call_node None at_ = tt
@@ -440,7 +484,7 @@ module _ (M M' : Engine) (E : ℕ) (gl : List ValType) (W : Wrap) (S : Stands M 
         let same : type_at C.source g' ≡ Some (function_type fn) = ap (λ z. type_at z g') f.funcs ∙ S.type_is g' fn at_ in
         let go = λ (es' : List Place). rewrite C lsd es' rest in
         let rm = subst (λ z. Room_call C z esd (λ es'. Room C es' rest)) same f.labels.2.1 in
-        subst (λ z. Comes M M' E gl W (st XD (l ++ ex) ops (call_code C lsd esd at g' z go) (flagged M g (values.I32 0)) co) (calls M (Some fn) g' ops at rest FD LD Ls Fs g co)) (sym same)
+        subst (λ z. Comes M M' E gl W (st XD (l ++ ex) ops (call_code C lsd esd at g' z (passes C rest) go) (flagged M g (values.I32 0)) co) (calls M (Some fn) g' ops at rest FD LD Ls Fs g co)) (sym same)
         (subst (λ m. Comes M M' E gl W (st XD (l ++ ex) ops (code_with (function_type fn) m) (flagged M g (values.I32 0)) co) (calls M (Some fn) g' ops at rest FD LD Ls Fs g co)) (sym f.funcs)
         (cut_call fn (cut (length (function_type fn).params) ops) at_ refl rm))
 
@@ -543,7 +587,7 @@ module _ (M M' : Engine) (E : ℕ) (gl : List ValType) (W : Wrap) (S : Stands M 
     goes_on_i type = rewrite C lsi (grown (result_of type) (left_by type)) rest
 
     abbrev dropped_i : FuncType → Nodes
-    dropped_i type = drops (suc (length type.params)) (reload C (result_of type) (left_by type) (goes_on_i type))
+    dropped_i type = drops (suc (length type.params)) (renew C.source (reload C (result_of type) (left_by type) (goes_on_i type)))
 
     abbrev behind_i : FuncType → Nodes
     behind_i type = test_both C lsi (left_by type) at (others_of type) (dropped_i type)
@@ -616,7 +660,7 @@ module _ (M M' : Engine) (E : ℕ) (gl : List ValType) (W : Wrap) (S : Stands M 
         let s2 : To M' 2 2 (st XI (l ++ exk) (values.I32 0 ∷ all_i) (if_any (made type) (behind_i type)) gi co) (st XI (l ++ exk) all_i (behind_i type) gi co) = if_zero_to M' in
         let s3 = both_to M M' E gl W C XI l exk all_i g co lsi (left_by type) at (others_of type) k (suc j) 0 (suc j) size_i kq (flag_len C g (wf.globals ∙ sym f.flag)) ks.1 in
         let s4 : To M' 1 1 (st XI (l ++ exk) (v ∷ all_i) (if_any (const (values.I32 at) (set C (offset_at C) H)) k) gi co) (st X1 (l ++ exk) [] (const (values.I32 at) (set C (offset_at C) H)) gi co) = one_step M' _ _ refl in
-        trap_out M M' E gl W S C ex (e1 ∷ e) ss ws ix cl r l (values.I32 n ∷ ops) en kd Ls Fs g co NI f fs wf (st XI (l ++ ex) all_i (guarded_call type) gi co) j k all_i exk H room kq hands (weaken M' (seq M' s0 (seq M' s1 (seq M' s2 (seq M' s3 s4)))) (omega arith) (omega arith))
+        trap_out M M' E gl W S C ex (e1 ∷ e) ss ws ix cl r l (values.I32 n ∷ ops) en kd Ls Fs g co NI f fs wf refl (st XI (l ++ ex) all_i (guarded_call type) gi co) j k all_i exk H room kq hands (weaken M' (seq M' s0 (seq M' s1 (seq M' s2 (seq M' s3 s4)))) (omega arith) (omega arith))
 
     abbrev RoomI : FuncType → Type 0
     RoomI type = FitsIn C (result_of type) (less (length type.params) esi) × Room C (grown (result_of type) (less (length type.params) esi)) rest
@@ -641,7 +685,7 @@ module _ (M M' : Engine) (E : ℕ) (gl : List ValType) (W : Wrap) (S : Stands M 
         let n1 = past (doubles C.source) C.source n in
         let uw : UnderWay = record { others = others; taken = values.I32 n ∷ vs } in
         let count : length vs ≡ m = cut_count m ops vs below c' in
-        let behind = test_both C lsi (e' ++ joined ss) at others (drops (suc (length vs)) (reload C r1 (e' ++ joined ss) (rewrite C lsi (grown r1 (e' ++ joined ss)) rest))) in
+        let behind = test_both C lsi (e' ++ joined ss) at others (drops (suc (length vs)) (renew C.source (reload C r1 (e' ++ joined ss) (rewrite C lsi (grown r1 (e' ++ joined ss)) rest)))) in
         let whole : values.I32 n ∷ ops ≡ (values.I32 n ∷ vs) ++ below = ap (λ (z : List Value). values.I32 n ∷ z) (cut_whole m ops vs below c') in
         let YI = armed XI behind ((values.I32 n ∷ vs) ++ below) in
         let at_kind : slice_get (types ex) (kind_at C) ≡ Some I32 = rw f.room (added_kind C.slots) in
@@ -652,7 +696,7 @@ module _ (M M' : Engine) (E : ℕ) (gl : List ValType) (W : Wrap) (S : Stands M 
         let T = st YI (l ++ exi) (values.I32 n1 ∷ (vs ++ [])) code gi co in
         let t0 = st XI (l ++ ex) all_i (guarded_call type) gi co in
         let s0 = judged type (Some (Some g')) 0 0 has (ap (λ z. slice_get z n) (sym wf.table) ∙ tq) le (inl (refl, refl)) in
-        let conv : if_any (made type) (behind_i type) ≡ if_any (load C (suc m) (e1 ∷ esi) moved) behind = ap₂ (λ z es'. if_any (load C (suc m) (e1 ∷ esi) (past_shown (doubles C.source) C (jump 0 (CallIndirect t) (store C (result_of z) es' stop)))) (test_both C lsi es' at others (drops (suc m) (reload C (result_of z) es' (rewrite C lsi (grown (result_of z) es') rest))))) (sym same) lh.1 ∙ ap (λ (z : ℕ). if_any (load C (suc m) (e1 ∷ esi) moved) (test_both C lsi (e' ++ joined ss) at others (drops (suc z) (reload C r1 (e' ++ joined ss) (rewrite C lsi (grown r1 (e' ++ joined ss)) rest))))) (sym count) in
+        let conv : if_any (made type) (behind_i type) ≡ if_any (load C (suc m) (e1 ∷ esi) moved) behind = ap₂ (λ z es'. if_any (load C (suc m) (e1 ∷ esi) (past_shown (doubles C.source) C (jump 0 (CallIndirect t) (store C (result_of z) es' stop)))) (test_both C lsi es' at others (drops (suc m) (renew C.source (reload C (result_of z) es' (rewrite C lsi (grown (result_of z) es') rest)))))) (sym same) lh.1 ∙ ap (λ (z : ℕ). if_any (load C (suc m) (e1 ∷ esi) moved) (test_both C lsi (e' ++ joined ss) at others (drops (suc z) (renew C.source (reload C r1 (e' ++ joined ss) (rewrite C lsi (grown r1 (e' ++ joined ss)) rest)))))) (sym count) in
         let s1 : To M' 3 3 (st XI (l ++ ex) (values.I32 0 ∷ all_i) (weighed type) gi co) (st XI (l ++ exi) (values.I32 1 ∷ all_i) (if_any (load C (suc m) (e1 ∷ esi) moved) behind) gi co) = subst (λ z. To M' 3 3 (st XI (l ++ ex) (values.I32 0 ∷ all_i) (weighed type) gi co) (st XI (l ++ exi) (values.I32 1 ∷ all_i) z gi co)) conv (weighed_to type 0) in
         let s1b : To M' 1 1 (st XI (l ++ exi) (values.I32 1 ∷ all_i) (if_any (load C (suc m) (e1 ∷ esi) moved) behind) gi co) (st YI (l ++ exi) [] (load C (suc m) (e1 ∷ esi) moved) gi co) = subst (λ (z : List Value). To M' 1 1 (st XI (l ++ exi) (values.I32 1 ∷ z) (if_any (load C (suc m) (e1 ∷ esi) moved) behind) gi co) (st YI (l ++ exi) [] (load C (suc m) (e1 ∷ esi) moved) gi co)) (sym whole) (one_step M' _ _ refl) in
         let cu : cut (suc m) (values.I32 n ∷ ops) ≡ parts (values.I32 n ∷ vs) below = ap (one_more (values.I32 n)) c' in

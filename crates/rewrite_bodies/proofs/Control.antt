@@ -13,28 +13,24 @@ use Rattle.wasm_syntax.specs.Host.{World}
 use Rattle.wasm_syntax.specs.declared.host.CollectorCall.{CollectorCall}
 use Rattle.wasm_syntax.specs.Machine.{Kind, leaves, again, returns, Label, Frame, Config, label, frame, Engine, top, exactly, Went, arrive, arrive_some, out_some, leave, loops, land, branch, carried_by, carry, same_result, same_carry, pick, deliver, moved, branch_if, moved_if, branch_table}
 use Rattle.rewrite_bodies.specs.calls.Slots.{added, Place, Spilled, Ctx, slot, kind_at, offset_at, grown, under}
-use Rattle.rewrite_bodies.specs.calls.Rewrite.{hand_left, test_flag, test_both, with_result, rewrite, get_flag, checked}
+use Rattle.rewrite_bodies.specs.calls.Rewrite.{hand_left, test_flag, test_both, with_result, rewrite, get_flag, checked, passes}
 use Rattle.rewrite_bodies.specs.calls.Landings.{number_of, landing_behind, part_of}
-use Rattle.rewrite_bodies.proofs.Landed.{marked, types_marked, fits_marked, br_if_down, mark_to, first_kind, l_below, l_head}
-use Rattle.rewrite_bodies.specs.Numbering.{mapped, flag_of, global_types}
+use Rattle.rewrite_bodies.proofs.Landed.{marked, types_marked, br_if_down, mark_to, first_kind, l_below, l_head}
+use Rattle.rewrite_bodies.specs.Numbering.{mapped, flag_of}
+use Rattle.rewrite_bodies.specs.calls.Guards.{renew}
+use Rattle.rewrite_bodies.specs.calls.Known.{HasLeast}
 use Rattle.rewrite_bodies.specs.calls.Pieces.{get, set, const, if_any, keep, store, reload, drops}
-use Rattle.std.proofs.lemmas.List.{length-map}
-use Rattle.rewrite_bodies.specs.calls.Agreement.{Pending, Arrives, awaits, now, pending, joined, t_kind, t_labels, Wit, UnderWay, FitsIn, Room, KindFits, FitsLabels, WorldFits, FitsFrame, FitsFrames, Wrap, t_frames, flagged}
+use Rattle.rewrite_bodies.specs.calls.Agreement.{Pending, Arrives, awaits, now, pending, joined, t_kind, t_labels, Wit, UnderWay, FitsIn, Room, KindFits, FitsLabels, FitsOpen, WorldFits, FitsFrame, FitsFrames, Wrap, t_frames, flagged, byte_count}
 use Rattle.rewrite_bodies.specs.calls.Steps.{Gets, To, Shell, st}
-use Rattle.rewrite_bodies.proofs.Run.{stored, stored_other, kind_no_slot, if_same, types-stored, one_step, seq, weaken, added_get, store_to, kept_to, reload_to, drops_to, cut_front}
+use Rattle.rewrite_bodies.proofs.Run.{stored, stored_other, kind_no_slot, if_same, types-stored, one_step, seq, weaken, added_get, store_to, reload_to, drops_to, cut_front}
 use Rattle.rewrite_bodies.proofs.Parts.{settle, step_plain}
+use Rattle.rewrite_bodies.proofs.Passing.{loosened, as_open, open_marked, stored_unless, types_unless, arrived, kept_unless}
 use Rattle.rewrite_bodies.proofs.Copies.{fixed_without, fixed_spill, labels_fixed, fits_any}
 use Rattle.wasm_laws.proofs.Progress.{same_of}
-use Rattle.rewrite_bodies.proofs.Sim.{refit, room_height, grown-append, grown_fits, len_of, shell, tgt, wit, wit_under, armed, if_zero_to}
+use Rattle.rewrite_bodies.proofs.Measures.{get_first, renew_to}
+use Rattle.rewrite_bodies.proofs.Sim.{refit, room_height, grown-append, grown_fits, len_of, flag_len, shell, tgt, wit, wit_under, armed, if_zero_to}
 use Rattle.wasm_syntax.proofs.Types.{same_type_is}
 use Rattle.rewrite_bodies.specs.inner.Promises.{Comes}
-
-pub flag_len : (C : Ctx) (g : World) → types g.globals ≡ global_types C.source → flag_of C.source ≡ length g.globals
-flag_len C g e = sym (length-map C.source.globals (λ g. g.vtype)) ∙ len_of g.globals (global_types C.source) e
-
-pub get_last : (g : List Value) (n : ℕ) (b : Value) → n ≡ length g → slice_get (g ++ b ∷ []) n ≡ Some b
-get_last [] n b e = let z : n ≡ 0 = e in rw z refl
-get_last (v ∷ g) n b e = let z : n ≡ suc (length g) = e in rw z (get_last g (length g) b refl)
 
 exactly_top : (r : Option ValType) (ops vs : List Value) → exactly r ops ≡ Some vs → top r ops ≡ Some vs
 exactly_top None [] vs e = e
@@ -66,7 +62,7 @@ exactly_exact r ops vs e = top_exact r ops vs (exactly_top r ops vs e)
 module _ (M M' : Engine) (E : ℕ) (gl : List ValType) (W : Wrap) where
   -- the flag is read
   pub flag_to : {X : Shell} {tl s : List Value} {k : Nodes} {co : List CollectorCall} (C : Ctx) (g : World) (b : ℕ) → flag_of C.source ≡ length g.globals → To M' 1 1 (st X tl s (get_flag C k) (flagged M g (values.I32 b)) co) (st X tl (values.I32 b ∷ s) k (flagged M g (values.I32 b)) co)
-  flag_to {tl = tl} {s = s} C g b fl = step_plain M' (GlobalGet (flag_of C.source)) [] s tl (flagged M g (values.I32 b)) (values.I32 b ∷ []) (values.I32 b ∷ s) refl (rw (get_last g.globals (flag_of C.source) (values.I32 b) fl) refl) refl
+  flag_to {tl = tl} {s = s} C g b fl = step_plain M' (GlobalGet (flag_of C.source)) [] s tl (flagged M g (values.I32 b)) (values.I32 b ∷ []) (values.I32 b ∷ s) refl (rw (get_first g.globals (flag_of C.source) (values.I32 b) (values.I64 (byte_count g.memory) ∷ []) fl) refl) refl
 
   -- the added locals behind the test of a call that left these operands
   abbrev pub behind_test : Ctx → List Place → ℕ → List Value → List Value
@@ -88,12 +84,12 @@ module _ (M M' : Engine) (E : ℕ) (gl : List ValType) (W : Wrap) where
       let k1 = basic 0 (Binary I32 Or) k2 in
       let k0 = basic 0 (GlobalGet (flag_of C.source)) k1 in
       let s1 : To M' 1 1 (st X (l ++ ex) s (get C (kind_at C) k0) gy co) (st X (l ++ ex) (values.I32 x ∷ s) k0 gy co) = added_get M' C l size ex (kind_at C) (values.I32 x) kd in
-      let s2 : To M' 1 1 (st X (l ++ ex) (values.I32 x ∷ s) k0 gy co) (st X (l ++ ex) (values.I32 y ∷ values.I32 x ∷ s) k1 gy co) = step_plain M' (GlobalGet (flag_of C.source)) [] (values.I32 x ∷ s) (l ++ ex) gy (values.I32 y ∷ []) (values.I32 y ∷ values.I32 x ∷ s) refl (rw (get_last g.globals (flag_of C.source) (values.I32 y) fl) refl) refl in
+      let s2 : To M' 1 1 (st X (l ++ ex) (values.I32 x ∷ s) k0 gy co) (st X (l ++ ex) (values.I32 y ∷ values.I32 x ∷ s) k1 gy co) = step_plain M' (GlobalGet (flag_of C.source)) [] (values.I32 x ∷ s) (l ++ ex) gy (values.I32 y ∷ []) (values.I32 y ∷ values.I32 x ∷ s) refl (rw (get_first g.globals (flag_of C.source) (values.I32 y) (values.I64 (byte_count g.memory) ∷ []) fl) refl) refl in
       let s3 : To M' 1 1 (st X (l ++ ex) (values.I32 y ∷ values.I32 x ∷ s) k1 gy co) (st X (l ++ ex) (values.I32 z ∷ s) k2 gy co) = step_plain M' (Binary I32 Or) (values.I32 y ∷ values.I32 x ∷ []) s (l ++ ex) gy (values.I32 z ∷ []) (values.I32 z ∷ s) refl (rw q refl) refl in
       seq M' s1 (seq M' s2 s3)
 
   -- values come back to a frame
-  returned_in : (vs : List Value) (Fs : List Frame) (ws : List Wit) (g : World) (co : List CollectorCall) (t : Config) (r : Option ValType) (C : Ctx) (ex : List Value) (i cl : ℕ) (r' : Option ValType) (l : List Value) (Ls : List Label) (ss : List (List Place)) → FitsFrame M E gl r (frame i r' cl l Ls) (wit C ex ss) → FitsFrames M E gl W.result r' Fs ws → WorldFits M gl g → exactly r vs ≡ Some vs → Gets M' 1 10 t (deliver M' vs (t_frames W r (frame i r' cl l Ls ∷ Fs) (wit C ex ss ∷ ws)) (flagged M g (values.I32 0)) co) → Comes M M' E gl W t (deliver M vs (frame i r' cl l Ls ∷ Fs) g co)
+  returned_in : (vs : List Value) (Fs : List Frame) (ws : List Wit) (g : World) (co : List CollectorCall) (t : Config) (r : Option ValType) (C : Ctx) (ex : List Value) (i cl : ℕ) (r' : Option ValType) (l : List Value) (Ls : List Label) (ss : List (List Place)) → FitsFrame M E gl (Some r) (frame i r' cl l Ls) (wit C ex ss) → FitsFrames M E gl W.result r' Fs ws → WorldFits M gl g → exactly r vs ≡ Some vs → Gets M' 1 10 t (deliver M' vs (t_frames W r (frame i r' cl l Ls ∷ Fs) (wit C ex ss ∷ ws)) (flagged M g (values.I32 0)) co) → Comes M M' E gl W t (deliver M vs (frame i r' cl l Ls ∷ Fs) g co)
   returned_in vs Fs ws g co t r C ex i cl r' l [] ss f fs gl_ x go = tt
   returned_in vs Fs ws g co t r C ex i cl r' l (L ∷ Ls) [] f fs gl_ x go = absurd f.labels
   returned_in vs Fs ws g co t r C ex i cl r' l (L ∷ Ls) (e ∷ ss) f fs gl_ x go =
@@ -101,18 +97,19 @@ module _ (M M' : Engine) (E : ℕ) (gl : List ValType) (W : Wrap) where
       let es = e ++ joined ss in
       let d = suc (length Ls) in
       let X = shell W C r' L.kind Ls ss Fs ws in
-      let ex' = stored r (λ t. slot t (length es)) vs ex in
+      let pass = passes C L.nodes in
+      let ex' = stored_unless pass r (λ t. slot t (length es)) vs ex in
       let size = len_of l C.locals f.size in
       let pl = grown_fits C r es ex f.room h.1 in
-      let hs = settle C l ex r L Ls e ss vs f.room x h in
+      let hs = arrived pass C l ex r L Ls e ss vs refl f.room x h in
       let k = rewrite C d (grown r e ++ joined ss) L.nodes in
       let k1 = test_flag C d es cl k in
-      let go1 : To M' 1 10 t (st X (l ++ ex) (vs ++ L.operands) (keep C (option_map Spilled r) es k1) (flagged M g (values.I32 0)) co) = rw grown-append at go in
-      let s1 = kept_to M' C l size ex r es vs L.operands k1 pl x in
-      let te = types-stored r (λ t. slot t (length es)) vs ex pl x in
+      let go1 : To M' 1 10 t (st X (l ++ ex) (vs ++ L.operands) (keep pass C (option_map Spilled r) es k1) (flagged M g (values.I32 0)) co) = rw grown-append at go in
+      let s1 = kept_unless M' C l size pass ex r es vs L.operands k1 pl x in
+      let te = types_unless pass r (λ t. slot t (length es)) vs ex pl x in
       let ex2 = behind_test C es cl ex' in
       let low = room_height C (grown r e ++ joined ss) L.nodes hs.2 in
-      let hs2 = fits_marked (number_of (landing_behind (part_of C.locals cl) es) C.landings) C cl l ex' None (label (vs ++ L.operands) L.nodes L.end L.kind ∷ Ls) (grown r e ∷ ss) low hs in
+      let hs2 = open_marked (number_of (landing_behind (part_of C.locals cl) es) C.landings) C cl l ex' (label (vs ++ L.operands) L.nodes L.end L.kind) Ls (grown r e) ss low hs in
       let te2 = types_marked (number_of (landing_behind (part_of C.locals cl) es) C.landings) C cl ex' (te ∙ f.room) ∙ te in
       let s2 = flag_down C X l ex' (vs ++ L.operands) g co d es cl k size (te ∙ f.room) (flag_len C g (gl_.globals ∙ sym f.flag)) in (
         wit C ex2 (grown r e ∷ ss) ∷ ws,
@@ -121,7 +118,7 @@ module _ (M M' : Engine) (E : ℕ) (gl : List ValType) (W : Wrap) where
       )
 
   -- or to one that called through the table
-  returned_arm : (vs : List Value) (Fs : List Frame) (ws : List Wit) (g : World) (co : List CollectorCall) (t : Config) (r : Option ValType) (C : Ctx) (ex : List Value) (others : UnderWay) (i cl : ℕ) (r' : Option ValType) (l : List Value) (Ls : List Label) (ss : List (List Place)) → FitsFrame M E gl r (frame i r' cl l Ls) (wit_under C ex ss (Some others)) → FitsFrames M E gl W.result r' Fs ws → WorldFits M gl g → exactly r vs ≡ Some vs → Gets M' 1 10 t (deliver M' vs (t_frames W r (frame i r' cl l Ls ∷ Fs) (wit_under C ex ss (Some others) ∷ ws)) (flagged M g (values.I32 0)) co) → Comes M M' E gl W t (deliver M vs (frame i r' cl l Ls ∷ Fs) g co)
+  returned_arm : (vs : List Value) (Fs : List Frame) (ws : List Wit) (g : World) (co : List CollectorCall) (t : Config) (r : Option ValType) (C : Ctx) (ex : List Value) (others : UnderWay) (i cl : ℕ) (r' : Option ValType) (l : List Value) (Ls : List Label) (ss : List (List Place)) → FitsFrame M E gl (Some r) (frame i r' cl l Ls) (wit_under C ex ss (Some others)) → FitsFrames M E gl W.result r' Fs ws → WorldFits M gl g → exactly r vs ≡ Some vs → Gets M' 1 10 t (deliver M' vs (t_frames W r (frame i r' cl l Ls ∷ Fs) (wit_under C ex ss (Some others) ∷ ws)) (flagged M g (values.I32 0)) co) → Comes M M' E gl W t (deliver M vs (frame i r' cl l Ls ∷ Fs) g co)
   unfolding int_binary
   returned_arm vs Fs ws g co t r C ex others i cl r' l [] ss f fs gl_ x go = tt
   returned_arm vs Fs ws g co t r C ex others i cl r' l (L ∷ Ls) [] f fs gl_ x go = absurd f.labels
@@ -134,25 +131,28 @@ module _ (M M' : Engine) (E : ℕ) (gl : List ValType) (W : Wrap) where
       let ex' = stored r (λ t. slot t (length es)) vs ex in
       let size = len_of l C.locals f.size in
       let pl = grown_fits C r es ex f.room h.1 in
-      let hs = settle C l ex r L Ls e ss vs f.room x h in
+      let hs = as_open C l ex' (label (vs ++ L.operands) L.nodes L.end L.kind) Ls (grown r e) ss (settle C l ex r L Ls e ss vs f.room x h) in
       let low : length es ≤ C.slots = omega (arith, grown_longer r es, room_height C (grown r es) L.nodes h.2) in
       let kd : slice_get ex' (kind_at C) ≡ Some (values.I32 0) = stored_other r (λ t. slot t (length es)) vs ex (kind_at C) (λ t. kind_no_slot C (length es) t low) ∙ f.no_kind.0 in
       let k = rewrite C d (grown r e ++ joined ss) L.nodes in
-      let kd_ = drops (length others.taken) (reload C r es k) in
+      let kr = renew C.source (reload C r es k) in
+      let kd_ = drops (length others.taken) kr in
       let K = test_both C d es cl others.others kd_ in
       let g0 = flagged M g (values.I32 0) in
       let go1 : To M' 1 10 t (st (armed X K ops) (l ++ ex) vs (store C r es stop) g0 co) = rw (append-nil, grown-append) at go in
       let s1 : To M' 0 1 (st (armed X K ops) (l ++ ex) vs (store C r es stop) g0 co) (st (armed X K ops) (l ++ ex') [] stop g0 co) = store_to M' C l size ex r es vs stop pl x in
       let s2 : To M' 1 1 (st (armed X K ops) (l ++ ex') [] stop g0 co) (st X (l ++ ex') ops K g0 co) = one_step M' _ _ refl in
-      let s3 = both_to C X l ex' ops g co d es cl others.others kd_ 0 0 0 size kd (flag_len C g (gl_.globals ∙ sym f.flag)) refl in
-      let s4 : To M' (length others.taken) (length others.taken) (st X (l ++ ex') ops kd_ g0 co) (st X (l ++ ex') L.operands (reload C r es k) g0 co) = drops_to M' (length others.taken) ops others.taken L.operands (reload C r es k) (cut_front others.taken L.operands) in
+      let fl = flag_len C g (gl_.globals ∙ sym f.flag) in
+      let s3 = both_to C X l ex' ops g co d es cl others.others kd_ 0 0 0 size kd fl refl in
+      let s4 : To M' (length others.taken) (length others.taken) (st X (l ++ ex') ops kd_ g0 co) (st X (l ++ ex') L.operands kr g0 co) = drops_to M' (length others.taken) ops others.taken L.operands kr (cut_front others.taken L.operands) in
+      let s4b : To M' 0 5 (st X (l ++ ex') L.operands kr g0 co) (st X (l ++ ex') L.operands (reload C r es k) g0 co) = renew_to M' M C.source X (l ++ ex') L.operands (reload C r es k) g co (values.I32 0) fl C.source.memories (subst (λ z. HasLeast z.memories g.memory) (sym f.funcs) gl_.least) gl_.memory in
       let s5 : To M' 0 1 (st X (l ++ ex') L.operands (reload C r es k) g0 co) (st X (l ++ ex') (vs ++ L.operands) k g0 co) = reload_to M' C l size ex r es vs L.operands k pl x in (
         wit C ex' (grown r e ∷ ss) ∷ ws,
         (gl_, (refit l (label (vs ++ L.operands) L.nodes L.end L.kind ∷ Ls) ex' (grown r e ∷ ss) None cl f refl (types-stored r (λ t. slot t (length es)) vs ex pl x) hs, fs)),
-        weaken M' (seq M' go1 (seq M' s1 (seq M' s2 (seq M' s3 (seq M' (if_zero_to M') (seq M' s4 s5)))))) (omega arith) (omega (arith, f.small, f.no_kind.1)),
+        weaken M' (seq M' go1 (seq M' s1 (seq M' s2 (seq M' s3 (seq M' (if_zero_to M') (seq M' s4 (seq M' s4b s5))))))) (omega arith) (omega (arith, f.small, f.no_kind.1)),
       )
 
-  returned_under : (vs : List Value) (Fs : List Frame) (ws : List Wit) (g : World) (co : List CollectorCall) (t : Config) (r : Option ValType) (F : Frame) (C : Ctx) (ex : List Value) (ss : List (List Place)) (others : Option UnderWay) → FitsFrame M E gl r F (wit_under C ex ss others) → FitsFrames M E gl W.result F.result Fs ws → WorldFits M gl g → exactly r vs ≡ Some vs → Gets M' 1 10 t (deliver M' vs (t_frames W r (F ∷ Fs) (wit_under C ex ss others ∷ ws)) (flagged M g (values.I32 0)) co) → Comes M M' E gl W t (deliver M vs (F ∷ Fs) g co)
+  returned_under : (vs : List Value) (Fs : List Frame) (ws : List Wit) (g : World) (co : List CollectorCall) (t : Config) (r : Option ValType) (F : Frame) (C : Ctx) (ex : List Value) (ss : List (List Place)) (others : Option UnderWay) → FitsFrame M E gl (Some r) F (wit_under C ex ss others) → FitsFrames M E gl W.result F.result Fs ws → WorldFits M gl g → exactly r vs ≡ Some vs → Gets M' 1 10 t (deliver M' vs (t_frames W r (F ∷ Fs) (wit_under C ex ss others ∷ ws)) (flagged M g (values.I32 0)) co) → Comes M M' E gl W t (deliver M vs (F ∷ Fs) g co)
   returned_under vs Fs ws g co t r F C ex ss None f fs gl_ x go = returned_in vs Fs ws g co t r C ex F.function F.call F.result F.locals F.labels ss f fs gl_ x go
   returned_under vs Fs ws g co t r F C ex ss (Some others) f fs gl_ x go = returned_arm vs Fs ws g co t r C ex others F.function F.call F.result F.locals F.labels ss f fs gl_ x go
 
@@ -177,13 +177,14 @@ module _ (M M' : Engine) (E : ℕ) (gl : List ValType) (W : Wrap) where
         let X = shell W C r L.kind Ls ss Fs ws in
         let size = len_of l C.locals f.size in
         let pl = grown_fits C a es ex f.room h.1 in
-        let hs = settle C [] ex a L Ls e ss vs f.room x h in
-        let ex2 = stored a (λ t. slot t (length es)) vs ex in
+        let pass = passes C L.nodes in
+        let hs = arrived pass C l ex a L Ls e ss vs refl f.room x (fits_any C l ex a (L ∷ Ls) (e ∷ ss) h) in
+        let ex2 = stored_unless pass a (λ t. slot t (length es)) vs ex in
         let k = rewrite C (suc (length Ls)) (grown a e ++ joined ss) L.nodes in
-        let go1 : To M' 1 2 t (st X (l ++ ex) (vs ++ L.operands) (keep C (option_map Spilled a) es k) (flagged M g (values.I32 0)) co) = rw grown-append at go in
-        let s1 = kept_to M' C l size ex a es vs L.operands k pl x in (
+        let go1 : To M' 1 2 t (st X (l ++ ex) (vs ++ L.operands) (keep pass C (option_map Spilled a) es k) (flagged M g (values.I32 0)) co) = rw grown-append at go in
+        let s1 = kept_unless M' C l size pass ex a es vs L.operands k pl x in (
           wit C ex2 (grown a e ∷ ss) ∷ ws,
-          (gl_, (refit l (label (vs ++ L.operands) L.nodes L.end L.kind ∷ Ls) ex2 (grown a e ∷ ss) None cl f refl (types-stored a (λ t. slot t (length es)) vs ex pl x) (fits_any C l ex2 None (label (vs ++ L.operands) L.nodes L.end L.kind ∷ Ls) (grown a e ∷ ss) hs), fs)),
+          (gl_, (refit l (label (vs ++ L.operands) L.nodes L.end L.kind ∷ Ls) ex2 (grown a e ∷ ss) None cl f refl (types_unless pass a (λ t. slot t (length es)) vs ex pl x) hs, fs)),
           weaken M' (seq M' go1 s1) (omega arith) (omega (arith, f.small)),
         )
 
@@ -210,7 +211,7 @@ module _ (M M' : Engine) (E : ℕ) (gl : List ValType) (W : Wrap) where
         let d = suc (length Ls) in
         let fx = labels_fixed C ex a (L ∷ Ls) (e ∷ ss) h in
         let same : under es ≡ es = fixed_without (λ x. true) es fx in
-        let code = λ (z : List Place). loop 0 a (rewrite C (suc d) z inner) 0 (with_result C a z (λ es'. rewrite C d es' L.nodes)) in
+        let code = λ (z : List Place). loop 0 a (rewrite C (suc d) z inner) 0 (with_result C a z (passes C L.nodes) (λ es'. rewrite C d es' L.nodes)) in
         let conv : rewrite C d es (loop o a inner ee L.nodes) ≡ code es = fixed_spill C (λ x. true) es (code (under es)) fx ∙ ap code same in (
           wit C ex (e ∷ ss) ∷ ws,
           (gl_, (refit l (label L.operands (loop o a inner ee L.nodes) L.end L.kind ∷ Ls) ex (e ∷ ss) None cl f refl refl (fits_any C l ex None (label L.operands (loop o a inner ee L.nodes) L.end L.kind ∷ Ls) (e ∷ ss) (h.0, tt, (kf.0, subst (λ z. Room C z inner) (sym same) kf.1, subst (FitsIn C a) (sym same) h.1, subst (λ z. Room C (grown a z) L.nodes) (sym same) h.2), h.3, h.4)), fs)),
@@ -240,7 +241,7 @@ module _ (M M' : Engine) (E : ℕ) (gl : List ValType) (W : Wrap) where
     br_outer ops (suc n) a p (L ∷ Ls) (e ∷ ss) h go = br_outer ops n (awaits (pending L.kind)) (pending L.kind) Ls ss h.4 go
 
     -- a branch from the innermost label, whatever its operands and its code
-    pub br_sim : (ops o : List Value) (c : Nodes) (n : ℕ) (L : Label) (Ls : List Label) (e : List Place) (ss : List (List Place)) → FitsLabels C l ex None (L ∷ Ls) (e ∷ ss) → Moved C ex r l Fs ws g co t Lx (branch n ops (label o c 0 (t_kind C (length Ls) (joined ss) L.kind) ∷ t_labels C (pending L.kind) Ls ss)) → Comes M M' E gl W t (moved M (branch n ops (L ∷ Ls)) (frame i r cl l Ls0) Fs g co)
+    pub br_sim : (ops o : List Value) (c : Nodes) (n : ℕ) (L : Label) (Ls : List Label) (e : List Place) (ss : List (List Place)) → FitsOpen C l ex None (L ∷ Ls) (e ∷ ss) → Moved C ex r l Fs ws g co t Lx (branch n ops (label o c 0 (t_kind C (length Ls) (joined ss) L.kind) ∷ t_labels C (pending L.kind) Ls ss)) → Comes M M' E gl W t (moved M (branch n ops (L ∷ Ls)) (frame i r cl l Ls0) Fs g co)
     br_sim ops o c zero L Ls e ss h go = br_land ops L.kind Ls ss h.3 h.4 go
     br_sim ops o c (suc n) L Ls e ss h go = br_outer ops n (awaits (pending L.kind)) (pending L.kind) Ls ss h.4 go
 
@@ -299,7 +300,7 @@ module _ (M M' : Engine) (E : ℕ) (gl : List ValType) (W : Wrap) where
   br_if_node C ex [] ss ws i cl r l (values.I32 v ∷ ops) en kd Ls Fs g co o n rest f fs gl_ = absurd f.labels.0
   br_if_node C ex (e1 ∷ e) ss ws i cl r l (values.I32 zero ∷ ops) en kd Ls Fs g co o n rest f fs gl_ =
       let h = f.labels in
-      (wit C ex (e ∷ ss) ∷ ws, (gl_, (refit l (label ops rest en kd ∷ Ls) ex (e ∷ ss) None cl f refl refl (h.0.1, tt, h.2.1, h.3, h.4), fs)), weaken M' (one_step M' _ _ refl) (omega arith) (omega (arith, f.small)))
+      (wit C ex (e ∷ ss) ∷ ws, (gl_, (refit l (label ops rest en kd ∷ Ls) ex (e ∷ ss) None cl f refl refl (loosened (passes C rest) l ex (joined ss) e ops h.0.1, tt, h.2.1, h.3, h.4), fs)), weaken M' (one_step M' _ _ refl) (omega arith) (omega (arith, f.small)))
   br_if_node C ex (e1 ∷ e) ss ws i cl r l (values.I32 (suc v) ∷ ops) en kd Ls Fs g co o n rest f fs gl_ =
       let nodes = jump o (BrIf n) rest in
       let all = values.I32 (suc v) ∷ ops in
@@ -308,16 +309,20 @@ module _ (M M' : Engine) (E : ℕ) (gl : List ValType) (W : Wrap) where
       br_sim C ex ws i cl r l Fs g co (tgt M W C ex (e1 ∷ e) ss ws r l all kd Ls Fs g co nodes) (label all nodes en kd ∷ Ls) ((e1 ∷ e) ∷ ss) Lx f fs gl_ ops all code n (label all nodes en kd) Ls (e1 ∷ e) ss f.labels (weaken M' (one_step M' _ _ refl) (omega arith) (omega arith))
 
   -- a table of labels
+  kind_carry : (C : Ctx) (d : ℕ) (js : List Place) (kd : Kind) → Some (carried_by (t_kind C d js kd)) ≡ Some (carried_by kd)
+  kind_carry C d js (leaves a) = refl
+  kind_carry C d js (again o a inner ee) = refl
+  kind_carry C d js (returns r) = refl
+
   t_carry : (C : Ctx) (l ex : List Value) (a b : Option ValType) (p : Pending) (n : ℕ) (Ls : List Label) (ss : List (List Place)) → FitsLabels C l ex a Ls ss → carry n Ls ≡ Some b → carry n (t_labels C p Ls ss) ≡ Some b
   t_carry C l ex a b p n [] ss h c = absurd (cc)
   t_carry C l ex a b p n (L ∷ Ls) [] h c = absurd h
-  t_carry C l ex a b p zero (L ∷ Ls) (e ∷ ss) h c = kind_carry L.kind ∙ c
-    where
-      kind_carry : (kd : Kind) → Some (carried_by (t_kind C (length Ls) (joined ss) kd)) ≡ Some (carried_by kd)
-      kind_carry (leaves a) = refl
-      kind_carry (again o a inner ee) = refl
-      kind_carry (returns r) = refl
+  t_carry C l ex a b p zero (L ∷ Ls) (e ∷ ss) h c = kind_carry C (length Ls) (joined ss) L.kind ∙ c
   t_carry C l ex a b p (suc n) (L ∷ Ls) (e ∷ ss) h c = t_carry C [] ex (awaits (pending L.kind)) b (pending L.kind) n Ls ss h.4 c
+
+  open_carry : (C : Ctx) (l ex : List Value) (b : Option ValType) (p : Pending) (n : ℕ) (L : Label) (Ls : List Label) (e : List Place) (ss : List (List Place)) → FitsOpen C l ex None (L ∷ Ls) (e ∷ ss) → carry n (L ∷ Ls) ≡ Some b → carry n (t_labels C p (L ∷ Ls) (e ∷ ss)) ≡ Some b
+  open_carry C l ex b p zero L Ls e ss h c = kind_carry C (length Ls) (joined ss) L.kind ∙ c
+  open_carry C l ex b p (suc n) L Ls e ss h c = t_carry C [] ex (awaits (pending L.kind)) b (pending L.kind) n Ls ss h.4 c
 
   same_carried : (n : ℕ) (o1 o2 : List Value) (c1 c2 : Nodes) (K : Kind) (B : List Label) → carry n (label o1 c1 0 K ∷ B) ≡ carry n (label o2 c2 0 K ∷ B)
   same_carried zero o1 o2 c1 c2 K B = refl
@@ -352,8 +357,8 @@ module _ (M M' : Engine) (E : ℕ) (gl : List ValType) (W : Wrap) where
       let Lx = label all code 0 K ∷ B in
       let top_ = rewrite C (suc (length Ls)) ((e1 ∷ e) ++ joined ss) nodes in
       let s = same_carry-same (carry n (L0 ∷ Ls)) (carry d (L0 ∷ Ls)) q in
-      let cn : carry n Lx ≡ Some s.0 = same_carried n all all code top_ K B ∙ t_carry C l ex None s.0 now n (L0 ∷ Ls) ((e1 ∷ e) ∷ ss) h s.1 in
-      let cd : carry d Lx ≡ Some s.0 = same_carried d all all code top_ K B ∙ t_carry C l ex None s.0 now d (L0 ∷ Ls) ((e1 ∷ e) ∷ ss) h s.2 in
+      let cn : carry n Lx ≡ Some s.0 = same_carried n all all code top_ K B ∙ open_carry C l ex s.0 now n L0 Ls (e1 ∷ e) ss h s.1 in
+      let cd : carry d Lx ≡ Some s.0 = same_carried d all all code top_ K B ∙ open_carry C l ex s.0 now d L0 Ls (e1 ∷ e) ss h s.2 in
       let ok : same_carry (carry n Lx) (carry d Lx) ≡ true = ap₂ (λ p q. same_carry p q) cn cd ∙ same_result-refl s.0 in
       let FX = frame (mapped C.source C.index) C.result 0 (l ++ ex) Lx in
       br_sim C ex ws i cl r l Fs g co (tgt M W C ex (e1 ∷ e) ss ws r l all kd Ls Fs g co nodes) (L0 ∷ Ls) ((e1 ∷ e) ∷ ss) Lx f fs gl_ ops all code n L0 Ls (e1 ∷ e) ss h

@@ -5,7 +5,7 @@ use Rattle.std.proofs.Common.{◌≡◌, ℕ, zero, suc, ◌+◌, ◌*◌, ◌/�
 use Rattle.std.specs.Int.{w32, w64, cast_signed}
 use Rattle.std.proofs.lemmas.Bool.{ltb-false}
 use Rattle.std.proofs.Math.Nat.{div-lt_iff_lt-mul}
-use Rattle.wasm_leb.specs.Writing.{unsigned_groups, unsigned_bytes}
+use Rattle.wasm_leb.specs.Writing.{unsigned_groups, unsigned_bytes, signed_groups, signed_bytes}
 use Rattle.wasm_syntax.specs.declared.value.ValType.{ValType}
 use Rattle.wasm_syntax.specs.declared.value.ValType.TheVariants.{I32, I64}
 use Rattle.wasm_syntax.specs.declared.value.Value.{Value}
@@ -16,13 +16,15 @@ use Rattle.int_ops.specs.declared.operators.Compare.TheVariants.{Eq, GtU, GtS}
 use Rattle.wasm_syntax.specs.declared.instruction.Convert.TheVariants.{ExtendU}
 use Rattle.wasm_syntax.specs.declared.instruction.Basic.{Basic}
 use Rattle.wasm_syntax.specs.declared.instruction.Basic.TheVariants.{Select, LocalGet, LocalTee, GlobalGet, GlobalSet, Eqz, Compare, Binary, Convert}
+use Rattle.wasm_syntax.specs.declared.parts.Limits.{Limits}
+use Rattle.wasm_syntax.specs.declared.module.ModuleParts.{ModuleParts as Module}
 use Rattle.wasm_syntax.specs.Access.{load_bits, store_bits}
 use Rattle.wasm_syntax.specs.Tree.{Br, Nodes, stop, basic, jump, BrIf}
 use Rattle.rewrite_bodies.specs.Numbering.{import_count, flag_of}
 use Rattle.rewrite_bodies.specs.calls.Slots.{Place, Spilled, Known, Copied, place_type, Ctx, slot, kind_at, offset_at, less, pushed, grown, without}
-use Rattle.rewrite_bodies.specs.calls.Pieces.{get, set, const, i32, call, if_any, fetch, load, keep, store, reload, spill_one, spill, drops}
-use Rattle.rewrite_bodies.specs.calls.Guards.{least, minus_one, guard_zero, guard_signed, past_end, out_test, guard_memory, range_test, guard_copy, guard_fill, guard, kind_signed, kind, memory_length}
-use Rattle.rewrite_bodies.specs.calls.Rewrite.{hand_value, hand, hand_top, to_exit, unwind, unwind_kind, hand_left, test_flag, test_both, checked, get_flag}
+use Rattle.rewrite_bodies.specs.calls.Pieces.{get, set, const, i32, call, if_any, fetch, load, keep_slot, keep, store, reload, spill_one, spill, drops}
+use Rattle.rewrite_bodies.specs.calls.Guards.{least, minus_one, guard_zero, guard_signed, past_end, out_test, guard_memory, range_test, guard_copy, guard_fill, guard, kind_signed, kind, length_of, get_length, set_length, renewed}
+use Rattle.rewrite_bodies.specs.calls.Rewrite.{hand_value, hand, hand_top, to_exit, unwind, unwind_kind, hand_left, test_flag, test_both, checked, get_flag, lengthened}
 use Rattle.rewrite_bodies.specs.calls.Agreement.{FitsIn}
 use Rattle.rewrite_bodies.specs.calls.Length.{code_length, FewNumbers}
 use Rattle.wasm_leb.proofs.Lengths.{ten_bytes, ten_signed}
@@ -66,6 +68,26 @@ len_global_get x k = let s = ten_bytes x in omega (arith, s)
 
 pub len_global_set : (x : ℕ) (k : Nodes) → code_length (basic 0 (GlobalSet x) k) ≤ 11 + code_length k
 len_global_set x k = let s = ten_bytes x in omega (arith, s)
+
+-- the global of the length is set, behind what may have changed that
+len_sixteen : (k : Nodes) → code_length (const (values.I64 16) k) ≡ 2 + code_length k
+unfolding signed_bytes signed_groups
+len_sixteen k = refl
+
+pub len_set_length : (src : Module) (k : Nodes) → code_length (set_length src k) ≤ 17 + code_length k
+len_set_length src k =
+    let k1 = basic 0 (GlobalSet (length_of src)) k in
+    let a = len_global_set (length_of src) k in
+    let b = len_sixteen (basic 0 (Binary I64 Shl) k1) in
+    omega (arith, a, b)
+
+pub len_renewed : (ls : List Limits) (src : Module) (k : Nodes) → code_length (renewed ls src k) ≤ 17 + code_length k
+len_renewed [] src k = omega arith
+len_renewed (l ∷ ls) src k = len_set_length src k
+
+pub len_lengthened : (q : Bool) (C : Ctx) (k : Nodes) → code_length (lengthened q C k) ≤ 17 + code_length k
+len_lengthened false C k = omega arith
+len_lengthened true C k = len_set_length C.source k
 
 pub len_branch : (l : ℕ) → code_length (jump 0 (Br l) stop) ≤ 11
 len_branch l = let s = ten_bytes l in omega (arith, s)
@@ -211,15 +233,19 @@ module _ (C : Ctx) (few : FewNumbers C) where
   len_tee : (x : ℕ) (k : Nodes) → x < 2 * C.slots + 4 → code_length (basic 0 (LocalTee (length C.locals + x)) k) ≤ 5 + code_length k
   len_tee x k lt = let s = local_four x lt in omega (arith, s)
 
-  pub len_keep : (p : Option Place) (es : List Place) (k : Nodes) → FitsIn C (option_map place_type p) es → code_length (keep C p es k) ≤ 5 + code_length k
-  len_keep None es k fit = omega arith
-  len_keep (Some (Spilled t)) es k fit = len_tee (slot t (length es)) k (slot_low t (length es) (omega (arith, fit)))
-  len_keep (Some (Known v)) es k fit = omega arith
-  len_keep (Some (Copied t x)) es k fit = omega arith
+  len_keep_slot : (q : Bool) (t : ValType) (es : List Place) (k : Nodes) → FitsIn C (Some t) es → code_length (keep_slot q C t es k) ≤ 5 + code_length k
+  len_keep_slot true t es k fit = omega arith
+  len_keep_slot false t es k fit = len_tee (slot t (length es)) k (slot_low t (length es) (omega (arith, fit)))
 
-  pub len_keep_result : (r : Option ValType) (es : List Place) (k : Nodes) → FitsIn C r es → code_length (keep C (option_map Spilled r) es k) ≤ 5 + code_length k
-  len_keep_result None es k fit = omega arith
-  len_keep_result (Some t) es k fit = len_tee (slot t (length es)) k (slot_low t (length es) (omega (arith, fit)))
+  pub len_keep : (q : Bool) (p : Option Place) (es : List Place) (k : Nodes) → FitsIn C (option_map place_type p) es → code_length (keep q C p es k) ≤ 5 + code_length k
+  len_keep q None es k fit = omega arith
+  len_keep q (Some (Spilled t)) es k fit = len_keep_slot q t es k fit
+  len_keep q (Some (Known v)) es k fit = omega arith
+  len_keep q (Some (Copied t x)) es k fit = omega arith
+
+  pub len_keep_result : (q : Bool) (r : Option ValType) (es : List Place) (k : Nodes) → FitsIn C r es → code_length (keep q C (option_map Spilled r) es k) ≤ 5 + code_length k
+  len_keep_result q None es k fit = omega arith
+  len_keep_result q (Some t) es k fit = len_keep_slot q t es k fit
 
   pub len_reload : (r : Option ValType) (es : List Place) (k : Nodes) → FitsIn C r es → code_length (reload C r es k) ≤ 5 + code_length k
   len_reload None es k fit = omega arith
@@ -323,23 +349,23 @@ module _ (C : Ctx) (few : FewNumbers C) where
       let x5 = len_guard_zero t b (suc h) (basic 0 (Binary I32 Or) k) (omega (arith, le)) in
       omega (arith, x1, x2, x3, x4, x5)
 
-  len_memory : (k : Nodes) → code_length (memory_length k) ≤ 15 + code_length k
-  len_memory k = let x = len_const (values.I64 16) (basic 0 (Binary I64 Shl) k) in omega (arith, x)
+  len_get_length : (k : Nodes) → code_length (get_length C.source k) ≤ 11 + code_length k
+  len_get_length k = len_global_get (length_of C.source) k
 
-  len_past_end : (k : Nodes) → code_length (past_end k) ≤ 16 + code_length k
-  len_past_end k = let x = len_memory (basic 0 (Compare I64 GtU) k) in omega (arith, x)
+  len_past_end : (k : Nodes) → code_length (past_end C.source k) ≤ 16 + code_length k
+  len_past_end k = let x = len_get_length (basic 0 (Compare I64 GtU) k) in omega (arith, x)
 
   len_guard_memory : (a : Place) (h n : ℕ) (k : Nodes) → h ≤ C.slots → code_length (guard_memory C a h n k) ≤ 40 + code_length k
   len_guard_memory a h n k le =
       let k1 = basic 0 (Binary I64 Sub) (basic 0 (Compare I64 GtS) k) in
-      let x1 = len_fetched a h (out_test n k) le in
+      let x1 = len_fetched a h (out_test C.source n k) le in
       let x2 = len_const (values.I64 n) k1 in
-      let x3 = len_memory (const (values.I64 n) k1) in
+      let x3 = len_get_length (const (values.I64 n) k1) in
       omega (arith, x1, x2, x3)
 
   len_range : (a : Place) (h : ℕ) (n : Place) (hn : ℕ) (k : Nodes) → h ≤ C.slots → hn ≤ C.slots → code_length (range_test C a h n hn k) ≤ 41 + code_length k
   len_range a h n hn k le len =
-      let k1 = basic 0 (Convert ExtendU) (basic 0 (Binary I64 Add) (past_end k)) in
+      let k1 = basic 0 (Convert ExtendU) (basic 0 (Binary I64 Add) (past_end C.source k)) in
       let x1 = len_fetched a h (basic 0 (Convert ExtendU) (fetch C n hn k1)) le in
       let x2 = len_fetched n hn k1 len in
       let x3 = len_past_end k in

@@ -20,8 +20,8 @@ use Rattle.wasm_syntax.specs.calls.Classes.{Risky}
 use Rattle.int_ops.specs.declared.operators.Binary.TheVariants.{Add}
 use Rattle.rewrite_bodies.specs.calls.Slots.{Place, place_type, Ctx, kind_at, offset_at, less, pushed, grown, under, result_place, freed, after_plain, behind_call, Landing, behind_jump, freed_at, local_written}
 use Rattle.rewrite_bodies.specs.calls.Pieces.{get, set, const, i32, call, if_any, load, keep, store, reload, drops}
-use Rattle.rewrite_bodies.specs.calls.Guards.{can_trap, kind, guard}
-use Rattle.rewrite_bodies.specs.calls.Rewrite.{guarded, tested, free, plain, with_result, after_direct, call_code, helper_of, hand_top, test_flag, test_both, past_shown, indirect_code, control, rewrite, hand_locals, zero_result, raise_flag, exit_code, body, unwind_kind, checked, hand, hand_carried, landing_code, nested, laid, free_at}
+use Rattle.rewrite_bodies.specs.calls.Guards.{can_trap, kind, guard, renew}
+use Rattle.rewrite_bodies.specs.calls.Rewrite.{passes, guarded, tested, free, plain, with_result, after_direct, call_code, helper_of, hand_top, test_flag, test_both, past_shown, indirect_code, control, rewrite, hand_locals, zero_result, raise_flag, exit_code, body, unwind_kind, checked, hand, hand_carried, landing_code, nested, laid, free_at, grows, lengthened}
 use Rattle.rewrite_bodies.specs.calls.Agreement.{FitsIn, Room_call, Room}
 use Rattle.rewrite_bodies.specs.calls.Typed.{Info, in_block, in_loop, in_body, original}
 use Rattle.rewrite_bodies.specs.calls.Length.{basic_length, jump_length, else_length, code_length, node_weight, live_weight, FewNumbers, BodyShort, long_guard}
@@ -30,7 +30,7 @@ use Rattle.rewrite_bodies.proofs.Unwind.{less_shorter}
 use Rattle.rewrite_bodies.proofs.TypedNodes.{cuts, grown_types, takes_of, own_behind, behind_types, result_is, without_types, AllFine, all_fine_landed, fine_landings}
 use Rattle.rewrite_bodies.proofs.Copies.{Fixed, fixed_under, without_append}
 use Rattle.wasm_laws.proofs.Safe.{one_result}
-use Rattle.rewrite_bodies.proofs.Lengths.{len_const, len_call, len_global_set, costs_twice, known, known-append, known_parts, known_grown, known_pushed, known_without, length_parts, len_get, len_fetched, len_load, len_hand_value, len_store, len_keep, len_keep_result, len_reload, len_drops, len_spill, len_unwind_kind, len_test_flag, len_test_both, len_guard, len_kind, len_set, len_branch, len_hand, len_landing}
+use Rattle.rewrite_bodies.proofs.Lengths.{len_const, len_call, len_global_set, len_renewed, len_lengthened, costs_twice, known, known-append, known_parts, known_grown, known_pushed, known_without, length_parts, len_get, len_fetched, len_load, len_hand_value, len_store, len_keep, len_keep_result, len_reload, len_drops, len_spill, len_unwind_kind, len_test_flag, len_test_both, len_guard, len_kind, len_set, len_branch, len_hand, len_landing}
 use Rattle.wasm_leb.proofs.Lengths.{ten_bytes}
 use Rattle.rewrite_bodies.proofs.Risks.{risk_of, Treated, gets, sets, tees, constant, spills, treated}
 use Rattle.rewrite_bodies.specs.calls.Facts.{needs, exposed_in}
@@ -101,7 +101,7 @@ module _ (C : Ctx) (few : FewNumbers C) where
       by_local None = omega arith
       by_local (Some x) = known_without (λ y. x == y) es
 
-  plain_short : (ls : List Info) (i : Basic) (own js : List Place) (o : ℕ) (rest : Nodes) (between : List ValType) → Fixed js → BasicTypes (original C ls) i (map place_type own) between → Room C (own ++ js) (basic o i rest) → Rest ls js rest between → code_length (plain C (length ls) (own ++ js) o i (λ es'. rewrite C (length ls) es' rest)) + charged C (own ++ js) (basic o i rest) ≤ live_weight C (own ++ js) (basic o i rest) + 12 * known own
+  plain_short : (ls : List Info) (i : Basic) (own js : List Place) (o : ℕ) (rest : Nodes) (between : List ValType) → Fixed js → BasicTypes (original C ls) i (map place_type own) between → Room C (own ++ js) (basic o i rest) → Rest ls js rest between → code_length (plain C (length ls) (own ++ js) o i (passes C rest) (λ es'. rewrite C (length ls) es' rest)) + charged C (own ++ js) (basic o i rest) ≤ live_weight C (own ++ js) (basic o i rest) + 12 * known own
   plain_short ls i own js o rest between f h rm ih =
       let es = own ++ js in
       let d = length ls in
@@ -114,11 +114,13 @@ module _ (C : Ctx) (few : FewNumbers C) where
       let k = rewrite C d (after_plain C es i) rest in
       let x : code_length k + charged C (after_plain C es i) rest ≤ live_weight C (after_plain C es i) rest + 12 * known own2 = subst (λ z. code_length (rewrite C d z rest) + charged C z rest ≤ live_weight C z rest + 12 * known own2) (sym conv) (ih own2 (behind_types C es i T.own1 ∙ T.after) (subst (λ z. Room C z rest) conv rm.3)) in
       let less_ : length left ≤ length es = less_shorter n es in
-      let a = freed_short d es left o i (basic 0 i (keep C p left k)) rm.0 less_ in
-      let b = len_keep C few p left k (subst (λ z. FitsIn C z left) (sym (result_is C es i)) rm.2) in
+      let kept = keep (passes C rest) C p left k in
+      let a = freed_short d es left o i (basic 0 i (lengthened (grows i) C kept)) rm.0 less_ in
+      let c = len_lengthened (grows i) C kept in
+      let b = len_keep C few (passes C rest) p left k (subst (λ z. FitsIn C z left) (sym (result_is C es i)) rm.2) in
       let kp = known_pushed p (freed i T.own1) in
       let kf = known_freed i T.own1 in
-      omega (arith, a, b, x, kp, kf, known_parts n es, ap known T.left, known-append T.own1 js, known-append own js)
+      omega (arith, a, b, c, x, kp, kf, known_parts n es, ap known T.left, known-append T.own1 js, known-append own js)
 
   -- ---- calls
 
@@ -130,15 +132,19 @@ module _ (C : Ctx) (few : FewNumbers C) where
   call_charge o true type es = refl
   call_charge o false type es = refl
 
-  after_short : (ls : List Info) (q : Bool) (r : Option ValType) (left : List Place) (o : ℕ) (rest : Nodes) → length left ≤ C.slots → FitsIn C r left → code_length (after_direct q C (length ls) r left o (λ es'. rewrite C (length ls) es' rest)) + behind_if o q left ≤ 78 + 16 * length left + code_length (rewrite C (length ls) (grown r left) rest)
-  after_short ls true r left o rest le fit = let a = len_keep_result C few r left (rewrite C (length ls) (grown r left) rest) fit in omega (arith, a)
+  after_short : (ls : List Info) (q : Bool) (r : Option ValType) (left : List Place) (o : ℕ) (rest : Nodes) → length left ≤ C.slots → FitsIn C r left → code_length (after_direct q C (length ls) r left o (passes C rest) (λ es'. rewrite C (length ls) es' rest)) + behind_if o q left ≤ 78 + 16 * length left + code_length (rewrite C (length ls) (grown r left) rest)
+  after_short ls true r left o rest le fit =
+      let k = with_result C r left (passes C rest) (λ es'. rewrite C (length ls) es' rest) in
+      let a = len_keep_result C few (passes C rest) r left (rewrite C (length ls) (grown r left) rest) fit in
+      let b = len_renewed C.source.memories C.source k in
+      omega (arith, a, b)
   after_short ls false r left o rest le fit =
       let k = rewrite C (length ls) (grown r left) rest in
-      let a = len_keep_result C few r left (test_flag C (length ls) left o k) fit in
+      let a = len_keep_result C few (passes C rest) r left (test_flag C (length ls) left o k) fit in
       let b = len_test_flag C few (length ls) left o k le in
       omega (arith, a, b)
 
-  call_short : (ls : List Info) (f : ℕ) (own js : List Place) (o : ℕ) (rest : Nodes) (between : List ValType) → ((type : FuncType) → type_at C.source f ≡ Some type → reverse type.results ≡ option_to_list (result_of type)) → JumpTypes (original C ls) (Call f) (map place_type own) between → Room C (own ++ js) (jump o (Call f) rest) → Rest ls js rest between → code_length (call_code C (length ls) (own ++ js) o f (type_at C.source f) (λ es'. rewrite C (length ls) es' rest)) + charged C (own ++ js) (jump o (Call f) rest) ≤ live_weight C (own ++ js) (jump o (Call f) rest) + 12 * known own
+  call_short : (ls : List Info) (f : ℕ) (own js : List Place) (o : ℕ) (rest : Nodes) (between : List ValType) → ((type : FuncType) → type_at C.source f ≡ Some type → reverse type.results ≡ option_to_list (result_of type)) → JumpTypes (original C ls) (Call f) (map place_type own) between → Room C (own ++ js) (jump o (Call f) rest) → Rest ls js rest between → code_length (call_code C (length ls) (own ++ js) o f (type_at C.source f) (passes C rest) (λ es'. rewrite C (length ls) es' rest)) + charged C (own ++ js) (jump o (Call f) rest) ≤ live_weight C (own ++ js) (jump o (Call f) rest) + 12 * known own
   call_short ls f own js o rest between one h rm ih =
       let type = h.0 in
       let es = own ++ js in
@@ -152,14 +158,14 @@ module _ (C : Ctx) (few : FewNumbers C) where
       let ty = grown_types r c.own1 h.2.below c.types ∙ ap (λ z. z ++ h.2.below) (sym ot) ∙ sym h.2.gives in
       let x = behind ls own js n r c.own1 rest between c.left ty room.1 ih in
       let q = nat_lt f (import_count C.source) in
-      let code = after_direct q C d r left o (λ es'. rewrite C d es' rest) in
+      let code = after_direct q C d r left o (passes C rest) (λ es'. rewrite C d es' rest) in
       let low : length left ≤ C.slots = omega (arith, less_shorter n es, rm.0) in
       let b = len_call (mapped C.source f) code in
       let e = after_short ls q r left o rest low room.0 in
       let g = length_parts n es in
       let cc_ = call_charge o q type es in
-      let all : code_length (call_code C d es o f (Some type) (λ es'. rewrite C d es' rest)) + (charge_call (part_of C.locals o) q C (Some type) es + charged C (grown r left) rest) ≤ node_weight (jump_length (Call f)) (length es) + live_weight C (grown r left) rest + 12 * known own = omega (arith, x.1, x.2, b, e, g, cc_) in
-      subst (λ y. code_length (call_code C d es o f y (λ es'. rewrite C d es' rest)) + (charge_call (part_of C.locals o) q C y es + behind_call y es (λ es'. charged C es' rest)) ≤ node_weight (jump_length (Call f)) (length es) + behind_call y es (λ es'. live_weight C es' rest) + 12 * known own) (sym h.1) all
+      let all : code_length (call_code C d es o f (Some type) (passes C rest) (λ es'. rewrite C d es' rest)) + (charge_call (part_of C.locals o) q C (Some type) es + charged C (grown r left) rest) ≤ node_weight (jump_length (Call f)) (length es) + live_weight C (grown r left) rest + 12 * known own = omega (arith, x.1, x.2, b, e, g, cc_) in
+      subst (λ y. code_length (call_code C d es o f y (passes C rest) (λ es'. rewrite C d es' rest)) + (charge_call (part_of C.locals o) q C y es + behind_call y es (λ es'. charged C es' rest)) ≤ node_weight (jump_length (Call f)) (length es) + behind_call y es (λ es'. live_weight C es' rest) + 12 * known own) (sym h.1) all
 
   -- the index of an entry is moved
   len_past : (q : Bool) (k : Nodes) → code_length (past_shown q C k) ≤ 12 + code_length k
@@ -183,7 +189,8 @@ module _ (C : Ctx) (few : FewNumbers C) where
       let ty = grown_types r c.own1 h.3.below c.types ∙ ap (λ z. z ++ h.3.below) (sym ot) ∙ sym h.3.gives in
       let x = behind ls (p ∷ own) js (suc n) r c.own1 rest between c.left ty room.1 ih in
       let k = rewrite C d (grown r left) rest in
-      let kd = drops (suc n) (reload C r left k) in
+      let kr = reload C r left k in
+      let kd = drops (suc n) (renew C.source kr) in
       let T = take (suc n) (p ∷ es) in
       let low : length left ≤ C.slots = omega (arith, less_shorter n es, rm.0) in
       let call_ = jump 0 (CallIndirect t) (store C r left stop) in
@@ -201,11 +208,12 @@ module _ (C : Ctx) (few : FewNumbers C) where
       let a7 = len_store C few r left stop room.0 in
       let a8 = len_test_both C few d (suc n) (p ∷ es) left o kd rm.0 low in
       let a9 = costs_twice T in
-      let a10 = len_drops C few (suc n) (reload C r left k) in
+      let a10 = len_drops C few (suc n) (renew C.source kr) in
+      let a13 = len_renewed C.source.memories C.source kr in
       let a11 = len_reload C few r left k room.0 in
       let g = length_parts (suc n) (p ∷ es) in
       let all_taken : suc n ≤ length T = taken_all (suc n) (p ∷ own) js (I32 ∷ reverse type.params) h.3.below (ap suc (length-reverse type.params)) e0 in
-      let all : code_length (indirect_code C d (p ∷ es) o t (Some type) (λ es'. rewrite C d es' rest)) + (0 + charged C (grown r left) rest) ≤ node_weight (jump_length (CallIndirect t)) (length (p ∷ es)) + live_weight C (grown r left) rest + 12 * known (p ∷ own) = omega (arith, x.1, x.2, a1, a2, a3, a4, a5, a6, a7, a8, a9, a10, a11, a12, g, all_taken) in
+      let all : code_length (indirect_code C d (p ∷ es) o t (Some type) (λ es'. rewrite C d es' rest)) + (0 + charged C (grown r left) rest) ≤ node_weight (jump_length (CallIndirect t)) (length (p ∷ es)) + live_weight C (grown r left) rest + 12 * known (p ∷ own) = omega (arith, x.1, x.2, a1, a2, a3, a4, a5, a6, a7, a8, a9, a10, a11, a12, a13, g, all_taken) in
       subst (λ q. code_length (indirect_code C d (p ∷ es) o t q (λ es'. rewrite C d es' rest)) + (0 + behind_call q es (λ es'. charged C es' rest)) ≤ node_weight (jump_length (CallIndirect t)) (length (p ∷ es)) + behind_call q es (λ es'. live_weight C es' rest) + 12 * known (p ∷ own)) (sym h.2) all
 
   branch_if_short : (ls : List Info) (l : ℕ) (own js : List Place) (o : ℕ) (rest : Nodes) (between : List ValType) → JumpTypes (original C ls) (BrIf l) (map place_type own) between → Room C (own ++ js) (jump o (BrIf l) rest) → Rest ls js rest between → code_length (jump 0 (BrIf l) (rewrite C (length ls) (less 1 (own ++ js)) rest)) + charged C (own ++ js) (jump o (BrIf l) rest) ≤ live_weight C (own ++ js) (jump o (BrIf l) rest) + 12 * known own
@@ -217,7 +225,7 @@ module _ (C : Ctx) (few : FewNumbers C) where
       omega (arith, x)
 
   module _ (one : (f : ℕ) (type : FuncType) → type_at C.source f ≡ Some type → reverse type.results ≡ option_to_list (result_of type)) (one_of : (t : ℕ) (type : FuncType) → slice_get C.source.types t ≡ Some type → reverse type.results ≡ option_to_list (result_of type)) where
-    control_short : (ls : List Info) (j : Jump) (own js : List Place) (o : ℕ) (rest : Nodes) (between : List ValType) → JumpTypes (original C ls) j (map place_type own) between → Room C (own ++ js) (jump o j rest) → Rest ls js rest between → code_length (control C (length ls) (own ++ js) o j (λ es'. rewrite C (length ls) es' rest)) + charged C (own ++ js) (jump o j rest) ≤ live_weight C (own ++ js) (jump o j rest) + 12 * known own
+    control_short : (ls : List Info) (j : Jump) (own js : List Place) (o : ℕ) (rest : Nodes) (between : List ValType) → JumpTypes (original C ls) j (map place_type own) between → Room C (own ++ js) (jump o j rest) → Rest ls js rest between → code_length (control C (length ls) (own ++ js) o j (passes C rest) (λ es'. rewrite C (length ls) es' rest)) + charged C (own ++ js) (jump o j rest) ≤ live_weight C (own ++ js) (jump o j rest) + 12 * known own
     control_short ls Unreachable own js o rest between h rm ih =
         let arm = unwind_kind C (length ls) (own ++ js) o in
         let a = len_const (i32 1) (tested C (length ls) (own ++ js) o (const (i32 1)) (jump 0 Unreachable stop)) in
@@ -232,10 +240,10 @@ module _ (C : Ctx) (few : FewNumbers C) where
     control_short ls (CallIndirect t) own js o rest between h rm ih = indirect_short ls t own js o rest between (one_of t) h rm ih
 
     -- behind a block
-    block_behind : (ls : List Info) (t : Option ValType) (own js : List Place) (rest : Nodes) (before : List ValType) → map place_type own ≡ before → FitsIn C t (own ++ js) → Room C (grown t (own ++ js)) rest → Rest ls js rest (option_to_list t ++ before) → code_length (with_result C t (own ++ js) (λ es'. rewrite C (length ls) es' rest)) + charged C (grown t (own ++ js)) rest ≤ 5 + live_weight C (grown t (own ++ js)) rest + 12 * known own
+    block_behind : (ls : List Info) (t : Option ValType) (own js : List Place) (rest : Nodes) (before : List ValType) → map place_type own ≡ before → FitsIn C t (own ++ js) → Room C (grown t (own ++ js)) rest → Rest ls js rest (option_to_list t ++ before) → code_length (with_result C t (own ++ js) (passes C rest) (λ es'. rewrite C (length ls) es' rest)) + charged C (grown t (own ++ js)) rest ≤ 5 + live_weight C (grown t (own ++ js)) rest + 12 * known own
     block_behind ls t own js rest before e fit rm ih =
         let x = behind ls own js 0 t own rest (option_to_list t ++ before) refl (grown_types t own before e) rm ih in
-        let a = len_keep_result C few t (own ++ js) (rewrite C (length ls) (grown t (own ++ js)) rest) fit in
+        let a = len_keep_result C few (passes C rest) t (own ++ js) (rewrite C (length ls) (grown t (own ++ js)) rest) fit in
         omega (arith, x.1, x.2, a)
 
     else_short : (ea : Option ℕ) → else_length (option_map (λ at. 0) ea) ≤ 1
@@ -255,7 +263,7 @@ module _ (C : Ctx) (few : FewNumbers C) where
         let fu : Fixed (u ++ js) = subst Fixed sp (fixed_under es) in
         let a = rewrite_short inner (in_block t ∷ ls) [] (u ++ js) [] (option_to_list t) it.0 fu refl (subst (λ x. Room C x inner) sp rm.1) ty.0 in
         let b = block_behind ls t u js rest before (without_types (λ x. true) own ∙ e) (subst (FitsIn C t) sp rm.2) (subst (λ x. Room C (grown t x) rest) sp rm.3) (λ own' e' rm'. rewrite_short rest ls own' js (option_to_list t ++ before) z it.1 f e' rm' ty.1) in
-        let code = λ (x : List Place). block 0 t (rewrite C (suc (length ls)) x inner) 0 (with_result C t x (λ es'. rewrite C (length ls) es' rest)) in
+        let code = λ (x : List Place). block 0 t (rewrite C (suc (length ls)) x inner) 0 (with_result C t x (passes C rest) (λ es'. rewrite C (length ls) es' rest)) in
         let s = len_spill C few (λ x. true) es (code (under es)) rm.0 in
         let ku = known_without (λ x. true) own in
         let c : code_length (code (under es)) + (charged C (under es) inner + charged C (grown t (under es)) rest) ≤ 8 + live_weight C (under es) inner + live_weight C (grown t (under es)) rest + 12 * known own =
@@ -268,7 +276,7 @@ module _ (C : Ctx) (few : FewNumbers C) where
         let fu : Fixed (u ++ js) = subst Fixed sp (fixed_under es) in
         let a = rewrite_short inner (in_loop t ∷ ls) [] (u ++ js) [] (option_to_list t) it.0 fu refl (subst (λ x. Room C x inner) sp rm.1) ty.0 in
         let b = block_behind ls t u js rest before (without_types (λ x. true) own ∙ e) (subst (FitsIn C t) sp rm.2) (subst (λ x. Room C (grown t x) rest) sp rm.3) (λ own' e' rm'. rewrite_short rest ls own' js (option_to_list t ++ before) z it.1 f e' rm' ty.1) in
-        let code = λ (x : List Place). loop 0 t (rewrite C (suc (length ls)) x inner) 0 (with_result C t x (λ es'. rewrite C (length ls) es' rest)) in
+        let code = λ (x : List Place). loop 0 t (rewrite C (suc (length ls)) x inner) 0 (with_result C t x (passes C rest) (λ es'. rewrite C (length ls) es' rest)) in
         let s = len_spill C few (λ x. true) es (code (under es)) rm.0 in
         let ku = known_without (λ x. true) own in
         let c : code_length (code (under es)) + (charged C (under es) inner + charged C (grown t (under es)) rest) ≤ 8 + live_weight C (under es) inner + live_weight C (grown t (under es)) rest + 12 * known own =
@@ -286,7 +294,7 @@ module _ (C : Ctx) (few : FewNumbers C) where
         let low : length es ≤ C.slots = omega (arith, rm.0) in
         let a = rewrite_short x (in_block t ∷ ls) [] (u ++ js) [] (option_to_list t) it.0 fu refl (subst (λ v. Room C v x) sp rm.1) ty.0 in
         let c = block_behind ls t u js rest ty.2 (without_types (λ x. true) own ∙ below) (subst (FitsIn C t) sp rm.3) (subst (λ v. Room C (grown t v) rest) sp rm.4) (λ own' e' rm'. rewrite_short rest ls own' js (option_to_list t ++ ty.2) z it.3 f e' rm' ty.4) in
-        let code = λ (n : Nodes) (v : List Place). choose 0 t (rewrite C (suc d) v x) None (rewrite C (suc d) v n) 0 (with_result C t v (λ es'. rewrite C d es' rest)) in
+        let code = λ (n : Nodes) (v : List Place). choose 0 t (rewrite C (suc d) v x) None (rewrite C (suc d) v n) 0 (with_result C t v (passes C rest) (λ es'. rewrite C d es' rest)) in
         let s = len_spill C few (λ x. true) es (code y (under es)) low in
         let ku = known_without (λ x. true) own in
         let g0 : code_length (code stop (under es)) + (charged C (under es) x + charged C (under es) stop + charged C (grown t (under es)) rest) ≤ 8 + live_weight C (under es) x + live_weight C (grown t (under es)) rest + 12 * known own =
@@ -307,7 +315,7 @@ module _ (C : Ctx) (few : FewNumbers C) where
         let a = rewrite_short x (in_block t ∷ ls) [] (u ++ js) [] (option_to_list t) it.0 fu refl (subst (λ v. Room C v x) sp rm.1) ty.0 in
         let b = rewrite_short y (in_block t ∷ ls) [] (u ++ js) [] (option_to_list t) it.2 fu refl (subst (λ v. Room C v y) sp rm.2) ty.1 in
         let c = block_behind ls t u js rest ty.2 (without_types (λ x. true) own ∙ below) (subst (FitsIn C t) sp rm.3) (subst (λ v. Room C (grown t v) rest) sp rm.4) (λ own' e' rm'. rewrite_short rest ls own' js (option_to_list t ++ ty.2) z it.3 f e' rm' ty.4) in
-        let code = λ (v : List Place). choose 0 t (rewrite C (suc d) v x) (Some 0) (rewrite C (suc d) v y) 0 (with_result C t v (λ es'. rewrite C d es' rest)) in
+        let code = λ (v : List Place). choose 0 t (rewrite C (suc d) v x) (Some 0) (rewrite C (suc d) v y) 0 (with_result C t v (passes C rest) (λ es'. rewrite C d es' rest)) in
         let s = len_spill C few (λ x. true) es (code (under es)) low in
         let ku = known_without (λ x. true) own in
         let g : code_length (code (under es)) + (charged C (under es) x + charged C (under es) y + charged C (grown t (under es)) rest) ≤ 9 + live_weight C (under es) x + live_weight C (under es) y + live_weight C (grown t (under es)) rest + 12 * known own =

@@ -1,6 +1,8 @@
 pub mod Run
 pub mod Longer
+pub mod Measures
 pub mod Parts
+pub mod Passing
 pub mod Risks
 pub mod FactLaws
 pub mod KnownSteps

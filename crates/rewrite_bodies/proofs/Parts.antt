@@ -25,7 +25,7 @@ use Rattle.int_ops.specs.declared.operators.Binary.{Binary as BinaryOp}
 use Rattle.int_ops.specs.declared.operators.Binary.TheVariants.{Add, Sub, Mul, DivS, DivU, RemS, RemU, And, Or, Xor, Shl, ShrS, ShrU, Rotl, Rotr}
 use Rattle.std.proofs.lemmas.List.{length-replicate}
 use Rattle.std.proofs.Math.Nat.{mul-div_cancel_left}
-use Rattle.rewrite_bodies.specs.calls.Agreement.{One, Holds, awaits, pending, joined, FitsLabels, MemoryFits, WorldFits, flagged}
+use Rattle.rewrite_bodies.specs.calls.Agreement.{One, Holds, awaits, pending, joined, FitsLabels, MemoryFits, WorldFits, with_added}
 use Rattle.rewrite_bodies.specs.calls.Known.{HasLeast}
 use Rattle.rewrite_bodies.proofs.Longer.{least_longer, put_fits, put_longer, copy_longer, grow_longer}
 use Rattle.rewrite_bodies.specs.calls.Steps.{To, Shell, st}
@@ -89,9 +89,9 @@ grow_keeps m m' n e h = grow_fits m m' n (nat_le (pages m + n) m.max) h refl e
 
 -- ---- an instruction does the same where more locals and globals stand behind those that it knows
 
-module _ (M : Engine) (gl : List ValType) (r : Option ValType) (can : Bool) (l ex : List Value) (b : Value) where
+module _ (M : Engine) (gl : List ValType) (r : Option ValType) (can : Bool) (l ex : List Value) (bs : List Value) where
   abbrev pub Rel : Effect → Effect → Type 0
-  Rel (gives g' l' ws) e' = (e' ≡ gives (flagged M g' b) (l' ++ ex) ws) × (types l' ≡ types l) × WorldFits M gl g' × (exactly r ws ≡ Some ws)
+  Rel (gives g' l' ws) e' = (e' ≡ gives (with_added M g' bs) (l' ++ ex) ws) × (types l' ≡ types l) × WorldFits M gl g' × (exactly r ws ≡ Some ws)
   Rel (fails k) e' = (can ≡ true) × (j : ℕ) × (k ≡ suc j)
   Rel unfit e' = Unit {0}
 
@@ -145,23 +145,23 @@ least_is M gl g m m' h e le = least_longer M.program.module_.memories (Some m) (
 pub memory_is : (M : Engine) (gl : List ValType) (g : World) (m : Memory) → WorldFits M gl g → g.memory ≡ Some m → MemoryFits (Some m)
 memory_is M gl g m h e = subst MemoryFits e h.memory
 
-module _ (M : Engine) (gl : List ValType) (C : Ctx) (es : List Place) (l : List Value) (g : World) (ex : List Value) (b : Value) (lt : types l ≡ C.locals) (wf : WorldFits M gl g) (gt : gl ≡ global_types C.source) where
+module _ (M : Engine) (gl : List ValType) (C : Ctx) (es : List Place) (l : List Value) (g : World) (ex : List Value) (bs : List Value) (lt : types l ≡ C.locals) (wf : WorldFits M gl g) (gt : gl ≡ global_types C.source) where
   typed_result : (ts : List ValType) (xs : List Value) (x : ℕ) (v : Value) → types xs ≡ ts → slice_get xs x ≡ Some v → exactly (slice_get ts x) (v ∷ []) ≡ Some (v ∷ [])
   typed_result ts xs x v e n = let z : slice_get ts x ≡ Some (type_of v) = ap (λ q. slice_get q x) (sym e) ∙ types_get xs x v n in rw z (one_result v (type_of v) refl)
 
-  local_get : (x : ℕ) (o : Option Value) → slice_get l x ≡ o → Rel M gl (slice_get C.locals x) false l ex b (effects.with_some o (λ v. gives g l (v ∷ []))) (effects.with_some (slice_get (l ++ ex) x) (λ v. gives (flagged M g b) (l ++ ex) (v ∷ [])))
+  local_get : (x : ℕ) (o : Option Value) → slice_get l x ≡ o → Rel M gl (slice_get C.locals x) false l ex bs (effects.with_some o (λ v. gives g l (v ∷ []))) (effects.with_some (slice_get (l ++ ex) x) (λ v. gives (with_added M g bs) (l ++ ex) (v ∷ [])))
   local_get x None e = tt
   local_get x (Some v) e = (rw (get_own l ex x v e) refl, refl, wf, typed_result C.locals l x v lt e)
 
-  local_set_if : (x : ℕ) (v w : Value) (q : Bool) → slice_get l x ≡ Some w → same_type (type_of w) (type_of v) ≡ q → Rel M gl None false l ex b (effects.when q (gives g (slice_set l x v) [])) (effects.over (slice_get (l ++ ex) x) v (gives (flagged M g b) (slice_set (l ++ ex) x v) []))
+  local_set_if : (x : ℕ) (v w : Value) (q : Bool) → slice_get l x ≡ Some w → same_type (type_of w) (type_of v) ≡ q → Rel M gl None false l ex bs (effects.when q (gives g (slice_set l x v) [])) (effects.over (slice_get (l ++ ex) x) v (gives (with_added M g bs) (slice_set (l ++ ex) x v) []))
   local_set_if x v w false e d = tt
   local_set_if x v w true e d = (rw (get_own l ex x w e, d, set-append_left l ex x v w e) refl, types-slice_set l x (type_of w) v (types_get l x w e) (sym (same_type_is (type_of w) (type_of v) d)), wf, refl)
 
-  local_set : (x : ℕ) (v : Value) (o : Option Value) → slice_get l x ≡ o → Rel M gl None false l ex b (effects.over o v (gives g (slice_set l x v) [])) (effects.over (slice_get (l ++ ex) x) v (gives (flagged M g b) (slice_set (l ++ ex) x v) []))
+  local_set : (x : ℕ) (v : Value) (o : Option Value) → slice_get l x ≡ o → Rel M gl None false l ex bs (effects.over o v (gives g (slice_set l x v) [])) (effects.over (slice_get (l ++ ex) x) v (gives (with_added M g bs) (slice_set (l ++ ex) x v) []))
   local_set x v None e = tt
   local_set x v (Some w) e = local_set_if x v w (same_type (type_of w) (type_of v)) e refl
 
-  local_tee_if : (x : ℕ) (v w : Value) (q : Bool) → slice_get l x ≡ Some w → same_type (type_of w) (type_of v) ≡ q → Rel M gl (slice_get C.locals x) false l ex b (effects.when q (gives g (slice_set l x v) (v ∷ []))) (effects.over (slice_get (l ++ ex) x) v (gives (flagged M g b) (slice_set (l ++ ex) x v) (v ∷ [])))
+  local_tee_if : (x : ℕ) (v w : Value) (q : Bool) → slice_get l x ≡ Some w → same_type (type_of w) (type_of v) ≡ q → Rel M gl (slice_get C.locals x) false l ex bs (effects.when q (gives g (slice_set l x v) (v ∷ []))) (effects.over (slice_get (l ++ ex) x) v (gives (with_added M g bs) (slice_set (l ++ ex) x v) (v ∷ [])))
   local_tee_if x v w false e d = tt
   local_tee_if x v w true e d =
       let same : type_of w ≡ type_of v = same_type_is (type_of w) (type_of v) d in
@@ -169,24 +169,24 @@ module _ (M : Engine) (gl : List ValType) (C : Ctx) (es : List Place) (l : List 
       let at : slice_get C.locals x ≡ Some (type_of v) = ap (λ q. slice_get q x) (sym lt) ∙ types_get l x w e ∙ ap Some same in
       (rw (get_own l ex x w e, d, set-append_left l ex x v w e) refl, ty, wf, rw at (one_result v (type_of v) refl))
 
-  local_tee : (x : ℕ) (v : Value) (o : Option Value) → slice_get l x ≡ o → Rel M gl (slice_get C.locals x) false l ex b (effects.over o v (gives g (slice_set l x v) (v ∷ []))) (effects.over (slice_get (l ++ ex) x) v (gives (flagged M g b) (slice_set (l ++ ex) x v) (v ∷ [])))
+  local_tee : (x : ℕ) (v : Value) (o : Option Value) → slice_get l x ≡ o → Rel M gl (slice_get C.locals x) false l ex bs (effects.over o v (gives g (slice_set l x v) (v ∷ []))) (effects.over (slice_get (l ++ ex) x) v (gives (with_added M g bs) (slice_set (l ++ ex) x v) (v ∷ [])))
   local_tee x v None e = tt
   local_tee x v (Some w) e = local_tee_if x v w (same_type (type_of w) (type_of v)) e refl
 
-  global_get : (x : ℕ) (o : Option Value) → slice_get g.globals x ≡ o → Rel M gl (slice_get (global_types C.source) x) false l ex b (effects.with_some o (λ v. gives g l (v ∷ []))) (effects.with_some (slice_get (g.globals ++ b ∷ []) x) (λ v. gives (flagged M g b) (l ++ ex) (v ∷ [])))
+  global_get : (x : ℕ) (o : Option Value) → slice_get g.globals x ≡ o → Rel M gl (slice_get (global_types C.source) x) false l ex bs (effects.with_some o (λ v. gives g l (v ∷ []))) (effects.with_some (slice_get (g.globals ++ bs) x) (λ v. gives (with_added M g bs) (l ++ ex) (v ∷ [])))
   global_get x None e = tt
-  global_get x (Some v) e = (rw (get_own g.globals (b ∷ []) x v e) refl, refl, wf, typed_result (global_types C.source) g.globals x v (wf.globals ∙ gt) e)
+  global_get x (Some v) e = (rw (get_own g.globals (bs) x v e) refl, refl, wf, typed_result (global_types C.source) g.globals x v (wf.globals ∙ gt) e)
 
-  global_set_if : (x : ℕ) (v w : Value) (q : Bool) → slice_get g.globals x ≡ Some w → same_type (type_of w) (type_of v) ≡ q → Rel M gl None false l ex b (effects.when q (gives (with_globals g (slice_set g.globals x v)) l [])) (effects.over (slice_get (g.globals ++ b ∷ []) x) v (gives (with_globals (flagged M g b) (slice_set (g.globals ++ b ∷ []) x v)) (l ++ ex) []))
+  global_set_if : (x : ℕ) (v w : Value) (q : Bool) → slice_get g.globals x ≡ Some w → same_type (type_of w) (type_of v) ≡ q → Rel M gl None false l ex bs (effects.when q (gives (with_globals g (slice_set g.globals x v)) l [])) (effects.over (slice_get (g.globals ++ bs) x) v (gives (with_globals (with_added M g bs) (slice_set (g.globals ++ bs) x v)) (l ++ ex) []))
   global_set_if x v w false e d = tt
   global_set_if x v w true e d = (
-    rw (get_own g.globals (b ∷ []) x w e, d, set-append_left g.globals (b ∷ []) x v w e) refl,
+    rw (get_own g.globals (bs) x w e, d, set-append_left g.globals (bs) x v w e) refl,
     refl,
     record { globals = types-slice_set g.globals x (type_of w) v (types_get g.globals x w e) (sym (same_type_is (type_of w) (type_of v) d)) ∙ wf.globals; memory = wf.memory; least = wf.least; table = wf.table },
     refl,
   )
 
-  global_set : (x : ℕ) (v : Value) (o : Option Value) → slice_get g.globals x ≡ o → Rel M gl None false l ex b (effects.over o v (gives (with_globals g (slice_set g.globals x v)) l [])) (effects.over (slice_get (g.globals ++ b ∷ []) x) v (gives (with_globals (flagged M g b) (slice_set (g.globals ++ b ∷ []) x v)) (l ++ ex) []))
+  global_set : (x : ℕ) (v : Value) (o : Option Value) → slice_get g.globals x ≡ o → Rel M gl None false l ex bs (effects.over o v (gives (with_globals g (slice_set g.globals x v)) l [])) (effects.over (slice_get (g.globals ++ bs) x) v (gives (with_globals (with_added M g bs) (slice_set (g.globals ++ bs) x v)) (l ++ ex) []))
   global_set x v None e = tt
   global_set x v (Some w) e = global_set_if x v w (same_type (type_of w) (type_of v)) e refl
 
@@ -194,7 +194,7 @@ module _ (M : Engine) (gl : List ValType) (C : Ctx) (es : List Place) (l : List 
   choice_type true c a d = refl
   choice_type false c a d = d
 
-  selected : (n : ℕ) (c a : Value) (q : Bool) → same_type (type_of a) (type_of c) ≡ q → Match (values.I32 n ∷ c ∷ a ∷ []) es → Rel M gl (second_type es) false l ex b (effects.when q (gives g l ((if n == 0 then c else a) ∷ []))) (effects.when q (gives (flagged M g b) (l ++ ex) ((if n == 0 then c else a) ∷ [])))
+  selected : (n : ℕ) (c a : Value) (q : Bool) → same_type (type_of a) (type_of c) ≡ q → Match (values.I32 n ∷ c ∷ a ∷ []) es → Rel M gl (second_type es) false l ex bs (effects.when q (gives g l ((if n == 0 then c else a) ∷ []))) (effects.when q (gives (with_added M g bs) (l ++ ex) ((if n == 0 then c else a) ∷ [])))
   selected n c a false d m = tt
   selected n c a true d m = (refl, refl, wf, second es m)
     where
@@ -203,7 +203,7 @@ module _ (M : Engine) (gl : List ValType) (C : Ctx) (es : List Place) (l : List 
       second (e ∷ []) m = absurd m.1
       second (e ∷ f ∷ es) m = one_result (if n == 0 then c else a) (place_type f) (choice_type (n == 0) c a (same_type_is (type_of a) (type_of c) d) ∙ m.1.0)
 
-  select : (vs : List Value) → Match vs es → Rel M gl (second_type es) false l ex b (effect Select g l vs) (effect Select (flagged M g b) (l ++ ex) vs)
+  select : (vs : List Value) → Match vs es → Rel M gl (second_type es) false l ex bs (effect Select g l vs) (effect Select (with_added M g bs) (l ++ ex) vs)
   select [] m = tt
   select (c ∷ []) m = tt
   select (c ∷ d ∷ []) m = tt
@@ -211,22 +211,22 @@ module _ (M : Engine) (gl : List ValType) (C : Ctx) (es : List Place) (l : List 
   select (values.I64 n ∷ d ∷ a ∷ []) m = tt
   select (c ∷ d ∷ a ∷ _ ∷ _) m = tt
 
-  grown_rel : (o : Option Memory) (m : Memory) (n old : ℕ) → grow m n ≡ o → g.memory ≡ Some m → Rel M gl (Some I32) false l ex b (effects.grown o g old l) (effects.grown o (flagged M g b) old (l ++ ex))
+  grown_rel : (o : Option Memory) (m : Memory) (n old : ℕ) → grow m n ≡ o → g.memory ≡ Some m → Rel M gl (Some I32) false l ex bs (effects.grown o g old l) (effects.grown o (with_added M g bs) old (l ++ ex))
   grown_rel None m n old e h = (refl, refl, wf, refl)
   grown_rel (Some m') m n old e h = (refl, refl, record { globals = wf.globals; memory = grow_keeps m m' n e (memory_is M gl g m wf h); least = least_is M gl g m m' wf h (grow_longer m m' n (nat_le (pages m + n) m.max) e); table = wf.table }, refl)
 
-  value_rel : (t : ValType) (n : ℕ) (can : Bool) → Rel M gl (Some t) can l ex b (gives g l (value t n ∷ [])) (gives (flagged M g b) (l ++ ex) (value t n ∷ []))
+  value_rel : (t : ValType) (n : ℕ) (can : Bool) → Rel M gl (Some t) can l ex bs (gives g l (value t n ∷ [])) (gives (with_added M g bs) (l ++ ex) (value t n ∷ []))
   value_rel t n can = (refl, refl, wf, one_result (value t n) t (value_type t n))
 
-  binop_rel : (t : ValType) (op : BinaryOp) (n k : ℕ) → Rel M gl (Some t) (divides op) l ex b (effects.divides (binary t op k n) (λ x. gives g l (value t x ∷ []))) (effects.divides (binary t op k n) (λ x. gives (flagged M g b) (l ++ ex) (value t x ∷ [])))
+  binop_rel : (t : ValType) (op : BinaryOp) (n k : ℕ) → Rel M gl (Some t) (divides op) l ex bs (effects.divides (binary t op k n) (λ x. gives g l (value t x ∷ []))) (effects.divides (binary t op k n) (λ x. gives (with_added M g bs) (l ++ ex) (value t x ∷ [])))
   unfolding int_binary
   binop_rel t Add n k = value_rel t _ false
   binop_rel t Sub n k = value_rel t _ false
   binop_rel t Mul n k = value_rel t _ false
-  binop_rel t DivS n k = rel_divides M gl (Some t) true l ex b (binary t DivS k n) _ _ refl (λ x. value_rel t x true)
-  binop_rel t DivU n k = rel_divides M gl (Some t) true l ex b (binary t DivU k n) _ _ refl (λ x. value_rel t x true)
-  binop_rel t RemS n k = rel_divides M gl (Some t) true l ex b (binary t RemS k n) _ _ refl (λ x. value_rel t x true)
-  binop_rel t RemU n k = rel_divides M gl (Some t) true l ex b (binary t RemU k n) _ _ refl (λ x. value_rel t x true)
+  binop_rel t DivS n k = rel_divides M gl (Some t) true l ex bs (binary t DivS k n) _ _ refl (λ x. value_rel t x true)
+  binop_rel t DivU n k = rel_divides M gl (Some t) true l ex bs (binary t DivU k n) _ _ refl (λ x. value_rel t x true)
+  binop_rel t RemS n k = rel_divides M gl (Some t) true l ex bs (binary t RemS k n) _ _ refl (λ x. value_rel t x true)
+  binop_rel t RemU n k = rel_divides M gl (Some t) true l ex bs (binary t RemU k n) _ _ refl (λ x. value_rel t x true)
   binop_rel t And n k = value_rel t _ false
   binop_rel t Or n k = value_rel t _ false
   binop_rel t Xor n k = value_rel t _ false
@@ -237,43 +237,43 @@ module _ (M : Engine) (gl : List ValType) (C : Ctx) (es : List Place) (l : List 
   binop_rel t Rotr n k = value_rel t _ false
 
   abbrev pub Framed : Basic → List Value → Type 0
-  Framed i vs = Rel M gl (result_type C es i) (can_trap i) l ex b (effect i g l vs) (effect i (flagged M g b) (l ++ ex) vs)
+  Framed i vs = Rel M gl (result_type C es i) (can_trap i) l ex bs (effect i g l vs) (effect i (with_added M g bs) (l ++ ex) vs)
 
   framed_as : (i : Basic) → OneByOne i → (vs : List Value) → Match vs es → Framed i vs
-  framed_as i is_nop vs m = rel_none M gl None false l ex b (gives g l []) (gives (flagged M g b) (l ++ ex) []) vs (refl, refl, wf, refl)
-  framed_as i is_drop vs m = rel_any M gl None false l ex b _ _ vs (λ v. (refl, refl, wf, refl))
+  framed_as i is_nop vs m = rel_none M gl None false l ex bs (gives g l []) (gives (with_added M g bs) (l ++ ex) []) vs (refl, refl, wf, refl)
+  framed_as i is_drop vs m = rel_any M gl None false l ex bs _ _ vs (λ v. (refl, refl, wf, refl))
   framed_as i is_select vs m = select vs m
-  framed_as i (is_local_get x) vs m = rel_none M gl (slice_get C.locals x) false l ex b _ _ vs (local_get x (slice_get l x) refl)
-  framed_as i (is_local_set x) vs m = rel_any M gl None false l ex b _ _ vs (λ v. local_set x v (slice_get l x) refl)
-  framed_as i (is_local_tee x) vs m = rel_any M gl (slice_get C.locals x) false l ex b _ _ vs (λ v. local_tee x v (slice_get l x) refl)
-  framed_as i (is_global_get x) vs m = rel_none M gl (slice_get (global_types C.source) x) false l ex b _ _ vs (global_get x (slice_get g.globals x) refl)
-  framed_as i (is_global_set x) vs m = rel_any M gl None false l ex b _ _ vs (λ v. global_set x v (slice_get g.globals x) refl)
+  framed_as i (is_local_get x) vs m = rel_none M gl (slice_get C.locals x) false l ex bs _ _ vs (local_get x (slice_get l x) refl)
+  framed_as i (is_local_set x) vs m = rel_any M gl None false l ex bs _ _ vs (λ v. local_set x v (slice_get l x) refl)
+  framed_as i (is_local_tee x) vs m = rel_any M gl (slice_get C.locals x) false l ex bs _ _ vs (λ v. local_tee x v (slice_get l x) refl)
+  framed_as i (is_global_get x) vs m = rel_none M gl (slice_get (global_types C.source) x) false l ex bs _ _ vs (global_get x (slice_get g.globals x) refl)
+  framed_as i (is_global_set x) vs m = rel_any M gl None false l ex bs _ _ vs (λ v. global_set x v (slice_get g.globals x) refl)
   framed_as i (is_load t align o) vs m =
-      rel_one M gl (Some (load_type t)) true l ex b I32 _ _ vs (λ a. rel_some M gl (Some (load_type t)) true l ex b g.memory _ _ (λ k e.
-      rel_bounds M gl (Some (load_type t)) true l ex b (memories.load k (address a o) (load_bits t / 8)) _ _ refl (λ n d. value_rel (load_type t) _ true)))
+      rel_one M gl (Some (load_type t)) true l ex bs I32 _ _ vs (λ a. rel_some M gl (Some (load_type t)) true l ex bs g.memory _ _ (λ k e.
+      rel_bounds M gl (Some (load_type t)) true l ex bs (memories.load k (address a o) (load_bits t / 8)) _ _ refl (λ n d. value_rel (load_type t) _ true)))
   framed_as i (is_store t align o) vs m =
-      rel_two M gl None true l ex b (store_type t) I32 _ _ vs (λ n a. rel_some M gl None true l ex b g.memory _ _ (λ k e.
-      rel_bounds M gl None true l ex b (memories.put k (address a o) (to_bytes (store_bits t / 8) n)) _ _ refl (λ k' d.
+      rel_two M gl None true l ex bs (store_type t) I32 _ _ vs (λ n a. rel_some M gl None true l ex bs g.memory _ _ (λ k e.
+      rel_bounds M gl None true l ex bs (memories.put k (address a o) (to_bytes (store_bits t / 8) n)) _ _ refl (λ k' d.
       (refl, refl, record { globals = wf.globals; memory = put_keeps k k' (address a o) (to_bytes (store_bits t / 8) n) d (memory_is M gl g k wf e); least = least_is M gl g k k' wf e (put_longer k k' (address a o) (to_bytes (store_bits t / 8) n) d); table = wf.table }, refl))))
-  framed_as i is_size vs m = rel_none M gl (Some I32) false l ex b _ _ vs (rel_some M gl (Some I32) false l ex b g.memory _ _ (λ k e. (refl, refl, wf, refl)))
-  framed_as i is_grow vs m = rel_one M gl (Some I32) false l ex b I32 _ _ vs (λ n. rel_some M gl (Some I32) false l ex b g.memory _ _ (λ k e. grown_rel (grow k n) k n (pages k) refl e))
+  framed_as i is_size vs m = rel_none M gl (Some I32) false l ex bs _ _ vs (rel_some M gl (Some I32) false l ex bs g.memory _ _ (λ k e. (refl, refl, wf, refl)))
+  framed_as i is_grow vs m = rel_one M gl (Some I32) false l ex bs I32 _ _ vs (λ n. rel_some M gl (Some I32) false l ex bs g.memory _ _ (λ k e. grown_rel (grow k n) k n (pages k) refl e))
   framed_as i is_copy vs m =
-      rel_three M gl None true l ex b _ _ vs (λ n from to. rel_some M gl None true l ex b g.memory _ _ (λ k e.
-      rel_bounds M gl None true l ex b (memories.copy k (modulo I32 to) (modulo I32 from) (modulo I32 n)) _ _ refl (λ k' d.
+      rel_three M gl None true l ex bs _ _ vs (λ n from to. rel_some M gl None true l ex bs g.memory _ _ (λ k e.
+      rel_bounds M gl None true l ex bs (memories.copy k (modulo I32 to) (modulo I32 from) (modulo I32 n)) _ _ refl (λ k' d.
       (refl, refl, record { globals = wf.globals; memory = copy_keeps k k' (modulo I32 to) (modulo I32 from) (modulo I32 n) d (memory_is M gl g k wf e); least = least_is M gl g k k' wf e (copy_longer k k' (modulo I32 to) (modulo I32 from) (modulo I32 n) (nat_le (modulo I32 from + modulo I32 n) (length k.bytes)) d); table = wf.table }, refl))))
   framed_as i is_fill vs m =
-      rel_three M gl None true l ex b _ _ vs (λ n byte to. rel_some M gl None true l ex b g.memory _ _ (λ k e.
-      rel_bounds M gl None true l ex b (memories.fill k (modulo I32 to) (byte % 256) (modulo I32 n)) _ _ refl (λ k' d.
+      rel_three M gl None true l ex bs _ _ vs (λ n byte to. rel_some M gl None true l ex bs g.memory _ _ (λ k e.
+      rel_bounds M gl None true l ex bs (memories.fill k (modulo I32 to) (byte % 256) (modulo I32 n)) _ _ refl (λ k' d.
       (refl, refl, record { globals = wf.globals; memory = put_keeps k k' (modulo I32 to) (replicate (modulo I32 n) (byte % 256)) d (memory_is M gl g k wf e); least = least_is M gl g k k' wf e (put_longer k k' (modulo I32 to) (replicate (modulo I32 n) (byte % 256)) d); table = wf.table }, refl))))
-  framed_as i (is_const v) vs m = rel_none M gl (Some (type_of v)) false l ex b _ _ vs (refl, refl, wf, one_result v (type_of v) refl)
-  framed_as i (is_compare t op) vs m = rel_two M gl (Some I32) false l ex b t t _ _ vs (λ n k. (refl, refl, wf, refl))
-  framed_as i (is_binary t op) vs m = rel_two M gl (Some t) (divides op) l ex b t t _ _ vs (λ n k. binop_rel t op n k)
+  framed_as i (is_const v) vs m = rel_none M gl (Some (type_of v)) false l ex bs _ _ vs (refl, refl, wf, one_result v (type_of v) refl)
+  framed_as i (is_compare t op) vs m = rel_two M gl (Some I32) false l ex bs t t _ _ vs (λ n k. (refl, refl, wf, refl))
+  framed_as i (is_binary t op) vs m = rel_two M gl (Some t) (divides op) l ex bs t t _ _ vs (λ n k. binop_rel t op n k)
   framed_as i (computes o) vs m =
       let gives_to : result_type C es i ≡ Some o.to = result_typed C es i ∙ ap (result_by C es) o.source_is in
       let safe : can_trap i ≡ false = never_traps i o (can_trap i) refl in
-      subst₂ (λ (r : Option ValType) (q : Bool). Rel M gl r q l ex b (effect i g l vs) (effect i (flagged M g b) (l ++ ex) vs)) (sym gives_to) (sym safe)
-      (subst₂ (λ (x y : Effect). Rel M gl (Some o.to) false l ex b x y) (sym (o.effect_is g l vs)) (sym (o.effect_is (flagged M g b) (l ++ ex) vs))
-      (rel_one M gl (Some o.to) false l ex b o.from (λ a. gives g l (value o.to (o.result a) ∷ [])) (λ a. gives (flagged M g b) (l ++ ex) (value o.to (o.result a) ∷ [])) vs (λ a. value_rel o.to (o.result a) false)))
+      subst₂ (λ (r : Option ValType) (q : Bool). Rel M gl r q l ex bs (effect i g l vs) (effect i (with_added M g bs) (l ++ ex) vs)) (sym gives_to) (sym safe)
+      (subst₂ (λ (x y : Effect). Rel M gl (Some o.to) false l ex bs x y) (sym (o.effect_is g l vs)) (sym (o.effect_is (with_added M g bs) (l ++ ex) vs))
+      (rel_one M gl (Some o.to) false l ex bs o.from (λ a. gives g l (value o.to (o.result a) ∷ [])) (λ a. gives (with_added M g bs) (l ++ ex) (value o.to (o.result a) ∷ [])) vs (λ a. value_rel o.to (o.result a) false)))
 
   pub framed : (i : Basic) (vs : List Value) → Match vs es → Framed i vs
   framed i vs m = framed_as i (one_by_one i) vs m

@@ -10,6 +10,7 @@ use Rattle.wasm_syntax.specs.declared.instruction.Basic.TheVariants.{Nop, Drop, 
 use Rattle.wasm_syntax.specs.calls.Classes.{Divider, by_div_s, by_div_u, by_rem_s, by_rem_u, Risky, risky_binary, risky_load, risky_store, risky_copy, risky_fill, effect_class, local_of, TypeSource, DropsAny, SelectsAny, FromLocal, IntoLocal, TeesLocal, FromGlobal, IntoGlobal, OverMemory, OfItself, type_source}
 use Rattle.rewrite_bodies.specs.calls.Slots.{Place, Spilled, Copied, Ctx, second_type, result_type, result_place, local_written}
 use Rattle.rewrite_bodies.specs.calls.Guards.{divides, can_trap}
+use Rattle.rewrite_bodies.specs.calls.Rewrite.{grows}
 use Rattle.rewrite_bodies.specs.calls.Landings.{division_kind, one_kind}
 use Rattle.wasm_syntax.proofs.Classes.{Computes}
 
@@ -84,6 +85,32 @@ no_risk i risky_fill o = let e = o.source_is in cc
 pub never_traps : (i : Basic) → Computes i → (q : Bool) → can_trap i ≡ q → q ≡ false
 never_traps i o false t = refl
 never_traps i o true t = absurd (no_risk i (risk_of i t) o)
+
+-- ---- the instruction that changes the length of the memory
+
+pub growth : (i : Basic) → (i ≡ MemoryGrow) ⊎ (grows i ≡ false)
+growth MemoryGrow = inl refl
+growth Nop = inr refl
+growth Drop = inr refl
+growth Select = inr refl
+growth (LocalGet x) = inr refl
+growth (LocalSet x) = inr refl
+growth (LocalTee x) = inr refl
+growth (GlobalGet x) = inr refl
+growth (GlobalSet x) = inr refl
+growth (Load l align offset) = inr refl
+growth (Store s align offset) = inr refl
+growth MemorySize = inr refl
+growth MemoryCopy = inr refl
+growth MemoryFill = inr refl
+growth (Const v) = inr refl
+growth (Eqz t) = inr refl
+growth (Unary t op) = inr refl
+growth (Compare t op) = inr refl
+growth (Binary t op) = inr refl
+growth (Convert c) = inr refl
+growth (Extend32 k) = inr refl
+growth (Extend64 k) = inr refl
 
 -- ---- the places behind an instruction
 

@@ -231,7 +231,7 @@ module _ (M : Engine) where
     store_to ex (Some t) es (v ∷ w ∷ vs) k p e = absurd (cc)
 
     -- and are kept there besides
-    pub kept_to : {X : Shell} {g : World} {co : List CollectorCall} (ex : List Value) (r : Option ValType) (es : List Place) (vs s : List Value) (k : Nodes) → HasPlace r (λ t. slot t (length es)) ex → exactly r vs ≡ Some vs → To M 0 1 (st X (l ++ ex) (vs ++ s) (keep C (option_map Spilled r) es k) g co) (st X (l ++ stored r (λ t. slot t (length es)) vs ex) (vs ++ s) k g co)
+    pub kept_to : {X : Shell} {g : World} {co : List CollectorCall} (ex : List Value) (r : Option ValType) (es : List Place) (vs s : List Value) (k : Nodes) → HasPlace r (λ t. slot t (length es)) ex → exactly r vs ≡ Some vs → To M 0 1 (st X (l ++ ex) (vs ++ s) (keep false C (option_map Spilled r) es k) g co) (st X (l ++ stored r (λ t. slot t (length es)) vs ex) (vs ++ s) k g co)
     kept_to ex None es [] s k p e = weaken (still _) (omega arith) (omega arith)
     kept_to ex None es (v ∷ vs) s k p e = absurd (cc)
     kept_to ex (Some t) es [] s k p e = absurd (cc)

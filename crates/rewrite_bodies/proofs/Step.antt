@@ -13,16 +13,18 @@ use Rattle.wasm_syntax.specs.declared.host.CollectorCall.{CollectorCall}
 use Rattle.wasm_syntax.specs.Effect.{Effect, gives, fails, unfit, effect, takes}
 use Rattle.wasm_syntax.specs.Machine.{Kind, Label, Frame, Config, label, frame, config, Engine, traps, Cut, short, parts, cut, result_of, function_type, calls, calls_if, calls_entry, calls_typed, calls_indirect, jumps, affects, does, runs, in_frame, steps, step, top, Stepped, next, ends, no_reply, bad_reply, stuck}
 use Rattle.rewrite_bodies.specs.calls.Slots.{Place, Spilled, Ctx, less, grown, result_type, Landing, place_type, offset_at, pushed, local_written, freed_at, result_place, after_plain}
-use Rattle.rewrite_bodies.specs.calls.Rewrite.{unwind_kind, tested, guarded, indirect_code, rewrite, checked, free_at}
+use Rattle.rewrite_bodies.specs.calls.Rewrite.{passes, unwind_kind, tested, guarded, indirect_code, rewrite, checked, free_at, grows, lengthened}
 use Rattle.rewrite_bodies.specs.calls.Pieces.{const, keep, set}
 use Rattle.rewrite_bodies.specs.calls.Guards.{can_trap, kind, entry_label, type_label, first_table, guard}
 use Rattle.rewrite_bodies.specs.calls.Steps.{To, Shell, st}
 use Rattle.rewrite_bodies.proofs.Run.{seq, weaken, push_to}
-use Rattle.rewrite_bodies.specs.calls.Agreement.{joined, Wit, FitsIn, Has, Room_call, Room, WorldFits, FitsFrame, FitsFrames, FitsConfig, Wrap, flagged, image}
+use Rattle.rewrite_bodies.specs.calls.Agreement.{joined, Wit, FitsIn, Has, Room_call, Room, byte_count, WorldFits, FitsFrame, FitsFrames, FitsConfig, Wrap, flagged, image}
 use Rattle.rewrite_bodies.specs.inner.Promises.{kind_of, verdict, Comes}
-use Rattle.rewrite_bodies.proofs.Parts.{Rel, framed, match_of, place_of, fits_put}
+use Rattle.rewrite_bodies.proofs.Parts.{Rel, framed, place_of, fits_put}
+use Rattle.rewrite_bodies.proofs.Passing.{needs_all, passes_some, kept_all, match_but}
 use Rattle.rewrite_bodies.specs.calls.Standing.{Stands, After}
-use Rattle.rewrite_bodies.proofs.Sim.{refit, len_of, shell, tgt, wit, armed, if_up_to, verdict_to, kind_to, usual_gives, push_sim, get_sim, set_sim, tee_sim, block_sim, loop_sim, if_sim, room_height}
+use Rattle.rewrite_bodies.proofs.Sim.{refit, len_of, flag_len, shell, tgt, wit, armed, if_up_to, verdict_to, kind_to, usual_gives, push_sim, get_sim, set_sim, tee_sim, block_sim, loop_sim, if_sim, room_height}
+use Rattle.rewrite_bodies.proofs.Measures.{tells_length}
 use Rattle.rewrite_bodies.proofs.Stays.{Stays, Usual, stays}
 use Rattle.rewrite_bodies.proofs.Control.{end_sim, br_node, br_if_node, return_node, table_node}
 use Rattle.rewrite_bodies.specs.calls.Landings.{number_of, number_in, landing_of, one_kind, carrying, part_of}
@@ -118,30 +120,30 @@ module _ (M M' : Engine) (E : ℕ) (gl : List ValType) (W : Wrap) (S : Stands M 
     abbrev Before : Config
     Before = st (shell W C r kd Ls ss Fs ws) (l ++ slice_set ex (offset_at C) (values.I32 o)) (values.I32 1 ∷ (v ∷ ops)) (jump 0 (BrIf (suc (length Ls) + n)) k) (flagged M g (values.I32 0)) co
 
-    carried_trap : number_of Found C.landings ≡ Some n → To M' 1 30 t Before → Comes M M' E gl W t (traps (suc j) (config (frame ix r cl l (LC ∷ Ls) ∷ Fs) g co))
-    carried_trap is pre =
-        let h = f.labels in
+    carried_trap : passes C (basic o i rest) ≡ false → number_of Found C.landings ≡ Some n → To M' 1 30 t Before → Comes M M' E gl W t (traps (suc j) (config (frame ix r cl l (LC ∷ Ls) ∷ Fs) g co))
+    carried_trap p is pre =
+        let h = kept_all C l ex LC Ls (e1 ∷ e) ss p f.labels in
         let low : length (e1 ∷ (e ++ joined ss)) ≤ C.slots = room_height C (e1 ∷ (e ++ joined ss)) (basic o i rest) h.2 in
         let ty : type_of v ≡ place_type e1 = place_of l ex (length (e ++ joined ss)) e1 v h.0.0 in
         let top_is : top (Some (place_type e1)) (v ∷ ops) ≡ Some (v ∷ []) = rw (ty, same_type_refl (place_type e1)) refl in
-        trap_landed M M' E gl W S C ex (e1 ∷ e) ss ws ix cl r l (v ∷ ops) en kd Ls Fs g co (basic o i rest) f fs wf t j k Found n (v ∷ []) (ops ++ all_ops Ls) is refl top_is
+        trap_landed M M' E gl W S C ex (e1 ∷ e) ss ws ix cl r l (v ∷ ops) en kd Ls Fs g co (basic o i rest) f fs wf p t j k Found n (v ∷ []) (ops ++ all_ops Ls) is refl top_is
         (λ ex2 hk. (all_in C l ex2 None (LC ∷ Ls) ((e1 ∷ e) ∷ ss) hk).1) (omega (arith, low)) (tell-all (LC ∷ Ls) co) pre
 
-  landed_trap : (C : Ctx) (ex : List Value) (e : List Place) (ss : List (List Place)) (ws : List Wit) (ix cl : ℕ) (r : Option ValType) (l ops : List Value) (en : ℕ) (kd : Kind) (Ls : List Label) (Fs : List Frame) (g : World) (co : List CollectorCall) (o : ℕ) (i : Basic) (rest : Nodes) → FitsFrame M E gl None (frame ix r cl l (label ops (basic o i rest) en kd ∷ Ls)) (wit C ex (e ∷ ss)) → FitsFrames M E gl W.result r Fs ws → WorldFits M gl g
+  landed_trap : (C : Ctx) (ex : List Value) (e : List Place) (ss : List (List Place)) (ws : List Wit) (ix cl : ℕ) (r : Option ValType) (l ops : List Value) (en : ℕ) (kd : Kind) (Ls : List Label) (Fs : List Frame) (g : World) (co : List CollectorCall) (o : ℕ) (i : Basic) (rest : Nodes) → FitsFrame M E gl None (frame ix r cl l (label ops (basic o i rest) en kd ∷ Ls)) (wit C ex (e ∷ ss)) → FitsFrames M E gl W.result r Fs ws → WorldFits M gl g → passes C (basic o i rest) ≡ false
       → (t : Config) (k : Nodes) (vs below : List Value) (j n : ℕ) → cut (takes i) ops ≡ parts vs below → effect i g l vs ≡ fails (suc j) → number_in C.landings (landing_of (part_of C.locals o) i (e ++ joined ss)) ≡ Some n → To M' 1 30 t (st (shell W C r kd Ls ss Fs ws) (l ++ slice_set ex (offset_at C) (values.I32 o)) (values.I32 1 ∷ ops) (jump 0 (BrIf (suc (length Ls) + n)) k) (flagged M g (values.I32 0)) co) → Comes M M' E gl W t (traps (suc j) (config (frame ix r cl l (label ops (basic o i rest) en kd ∷ Ls) ∷ Fs) g co))
-  landed_trap C ex e ss ws ix cl r l ops en kd Ls Fs g co o i rest f fs wf t k vs below j n c p is pre = by_kind (one_kind i) refl is
+  landed_trap C ex e ss ws ix cl r l ops en kd Ls Fs g co o i rest f fs wf all_kept t k vs below j n c p is pre = by_kind (one_kind i) refl is
     where
       by_places : (e : List Place) (ops : List Value) (k1 : ℕ) → FitsFrame M E gl None (frame ix r cl l (label ops (basic o i rest) en kd ∷ Ls)) (wit C ex (e ∷ ss)) → one_kind i ≡ Some k1 → cut (takes i) ops ≡ parts vs below → number_in C.landings (carrying (part_of C.locals o) (Some k1) (e ++ joined ss)) ≡ Some n → To M' 1 30 t (st (shell W C r kd Ls ss Fs ws) (l ++ slice_set ex (offset_at C) (values.I32 o)) (values.I32 1 ∷ ops) (jump 0 (BrIf (suc (length Ls) + n)) k) (flagged M g (values.I32 0)) co) → Comes M M' E gl W t (traps (suc j) (config (frame ix r cl l (label ops (basic o i rest) en kd ∷ Ls) ∷ Fs) g co))
       by_places [] [] k1 f one c is pre =
           let m = takes_one i k1 one in
           let z : cut (takes i) [] ≡ short = ap (λ m. cut m []) m.1 in
           absurd (cc)
-      by_places [] (v ∷ ops) k1 f one c is pre = absurd f.labels.0
-      by_places (e1 ∷ e) [] k1 f one c is pre = absurd f.labels.0
+      by_places [] (v ∷ ops) k1 f one c is pre = absurd (kept_all C l ex (label (v ∷ ops) (basic o i rest) en kd) Ls [] ss all_kept f.labels).0
+      by_places (e1 ∷ e) [] k1 f one c is pre = absurd (kept_all C l ex (label [] (basic o i rest) en kd) Ls (e1 ∷ e) ss all_kept f.labels).0
       by_places (e1 ∷ e) (v ∷ ops) k1 f one c is pre =
           let same : suc j ≡ k1 = only_kind i g l vs k1 (suc j) one p in
           let is' : number_of (Found C ex e1 e ss ws ix cl r l v ops en kd Ls Fs g co o i rest f fs wf t k j n) C.landings ≡ Some n = subst (λ z. number_in C.landings (carrying (part_of C.locals o) (Some z) ((e1 ∷ e) ++ joined ss)) ≡ Some n) (sym same) is in
-          carried_trap C ex e1 e ss ws ix cl r l v ops en kd Ls Fs g co o i rest f fs wf t k j n is' pre
+          carried_trap C ex e1 e ss ws ix cl r l v ops en kd Ls Fs g co o i rest f fs wf t k j n all_kept is' pre
 
       by_kind : (q : Option ℕ) → one_kind i ≡ q → number_in C.landings (carrying (part_of C.locals o) q (e ++ joined ss)) ≡ Some n → Comes M M' E gl W t (traps (suc j) (config (frame ix r cl l (label ops (basic o i rest) en kd ∷ Ls) ∷ Fs) g co))
       by_kind None one is = absurd (cc)
@@ -169,7 +171,7 @@ module _ (M M' : Engine) (E : ℕ) (gl : List ValType) (W : Wrap) (S : Stands M 
     gb = flagged M g (values.I32 0)
 
     abbrev kb : Nodes
-    kb = basic 0 i (keep C (option_map Spilled (result_type C esb i)) (less (takes i) esb) (rewrite C lsb (grown (result_type C esb i) (less (takes i) esb)) rest))
+    kb = basic 0 i (lengthened (grows i) C (keep (passes C rest) C (option_map Spilled (result_type C esb i)) (less (takes i) esb) (rewrite C lsb (grown (result_type C esb i) (less (takes i) esb)) rest)))
 
     abbrev TB : Bool → Config
     TB b = st XB (l ++ ex) ops (guarded b C lsb esb o i kb) gb co
@@ -177,36 +179,37 @@ module _ (M M' : Engine) (E : ℕ) (gl : List ValType) (W : Wrap) (S : Stands M 
     basic_trap : (vs below : List Value) (k : ℕ) → cut (takes i) ops ≡ parts vs below → effect i g l vs ≡ fails k → Comes M M' E gl W (TB (needs C o i)) (traps k (config (FB ∷ Fs) g co))
     basic_trap vs below k c p =
         let h = f.labels in
-        let tr = subst (λ z. Rel M gl (result_type C esb i) (can_trap i) l ex (values.I32 0) z (effect i gb (l ++ ex) vs)) p (framed M gl C esb l g ex (values.I32 0) f.size wf (sym f.flag) i vs (match_of l ex (takes i) (joined ss) e ops vs below h.0 c)) in
+        let bs = values.I32 0 ∷ values.I64 (byte_count g.memory) ∷ [] in
+        let tr = subst (λ z. Rel M gl (result_type C esb i) (can_trap i) l ex bs z (effect i gb (l ++ ex) vs)) p (framed M gl C esb l g ex bs f.size wf (sym f.flag) i vs (match_but (passes C (basic o i rest)) l ex (takes i) (joined ss) e ops vs below (passes_some C o i rest) h.0 c)) in
         let j = tr.1 in
         let is : kind_of (effect i g l vs) ≡ suc j = ap kind_of p ∙ tr.2 in
-        by_need (needs C o i) refl tr.0 (subst (λ z. Comes M M' E gl W (TB true) (traps z (config (FB ∷ Fs) g co))) (sym tr.2) (by_number (number_in C.landings (landing_of (part_of C.locals o) i esb)) j refl tr.0 is (p ∙ ap fails tr.2)))
+        by_need (needs C o i) refl tr.0 (λ n. subst (λ z. Comes M M' E gl W (TB true) (traps z (config (FB ∷ Fs) g co))) (sym tr.2) (by_number (needs_all C o i rest n) (number_in C.landings (landing_of (part_of C.locals o) i esb)) j refl tr.0 is (p ∙ ap fails tr.2)))
       where
-        by_need : (b : Bool) → needs C o i ≡ b → can_trap i ≡ true → Comes M M' E gl W (TB true) (traps k (config (FB ∷ Fs) g co)) → Comes M M' E gl W (TB b) (traps k (config (FB ∷ Fs) g co))
-        by_need true n t h = h
+        by_need : (b : Bool) → needs C o i ≡ b → can_trap i ≡ true → (needs C o i ≡ true → Comes M M' E gl W (TB true) (traps k (config (FB ∷ Fs) g co))) → Comes M M' E gl W (TB b) (traps k (config (FB ∷ Fs) g co))
+        by_need true n t h = h n
         by_need false n t h = absurd (safe n t vs below k c p)
 
-        by_number : (q : Option ℕ) (j : ℕ) → number_in C.landings (landing_of (part_of C.locals o) i esb) ≡ q → can_trap i ≡ true → kind_of (effect i g l vs) ≡ suc j → effect i g l vs ≡ fails (suc j) → Comes M M' E gl W (st XB (l ++ ex) ops (checked q C lsb esb o (guard C i esb) (kind C i esb) kb) gb co) (traps (suc j) (config (FB ∷ Fs) g co))
-        by_number None j num ct is p =
-            let h = f.labels in
+        by_number : passes C (basic o i rest) ≡ false → (q : Option ℕ) (j : ℕ) → number_in C.landings (landing_of (part_of C.locals o) i esb) ≡ q → can_trap i ≡ true → kind_of (effect i g l vs) ≡ suc j → effect i g l vs ≡ fails (suc j) → Comes M M' E gl W (st XB (l ++ ex) ops (checked q C lsb esb o (guard C i esb) (kind C i esb) kb) gb co) (traps (suc j) (config (FB ∷ Fs) g co))
+        by_number all_kept None j num ct is p =
+            let h = kept_all C l ex LB Ls e ss all_kept f.labels in
             let T0 = st XB (l ++ ex) ops (guard C i esb (tested C lsb esb o (kind C i esb) kb)) gb co in
-            let v1 = verdict_to M M' E gl W C ex e ss ws ix cl r l ops en kd Ls Fs g co ex i (tested C lsb esb o (kind C i esb) kb) vs below ct (len_of l C.locals f.size) wf.memory rm.0 h.0 c (λ n. cc) in
+            let v1 = verdict_to M M' E gl W C ex e ss ws ix cl r l ops en kd Ls Fs g co ex i (tested C lsb esb o (kind C i esb) kb) vs below ct (len_of l C.locals f.size) (wf.memory, tells_length M C g (values.I32 0) (flag_len C g (wf.globals ∙ sym f.flag))) rm.0 h.0 c (λ n. cc) in
             let arm = unwind_kind C lsb esb o in
             let YB = armed XB kb ops in
             let v2 : To M' 1 21 T0 (st XB (l ++ ex) (values.I32 1 ∷ ops) (tested C lsb esb o (kind C i esb) kb) gb co) = subst (λ z. To M' 1 21 T0 (st XB (l ++ ex) (values.I32 (verdict z) ∷ ops) (tested C lsb esb o (kind C i esb) kb) gb co)) is v1 in
             let v3 : To M' 1 1 (st XB (l ++ ex) (values.I32 1 ∷ ops) (tested C lsb esb o (kind C i esb) kb) gb co) (st YB (l ++ ex) [] (kind C i esb arm) gb co) = if_up_to M' 0 in
-            let v4 = kind_to M M' E gl W C ex e ss ws ix cl r l ops en kd Ls Fs g co YB i j arm vs below ct (len_of l C.locals f.size) wf.memory rm.0 h.0 c (λ n. cc) is in
-            trap_from M M' E gl W S C ex e ss ws ix cl r l ops en kd Ls Fs g co (basic o i rest) f fs wf T0 j kb (weaken M' (seq M' v2 (seq M' v3 v4)) (omega arith) (omega arith))
-        by_number (Some n) j num ct is p =
+            let v4 = kind_to M M' E gl W C ex e ss ws ix cl r l ops en kd Ls Fs g co YB i j arm vs below ct (len_of l C.locals f.size) (wf.memory, tells_length M C g (values.I32 0) (flag_len C g (wf.globals ∙ sym f.flag))) rm.0 h.0 c (λ n. cc) is in
+            trap_from M M' E gl W S C ex e ss ws ix cl r l ops en kd Ls Fs g co (basic o i rest) f fs wf all_kept T0 j kb (weaken M' (seq M' v2 (seq M' v3 v4)) (omega arith) (omega arith))
+        by_number all_kept (Some n) j num ct is p =
             let low : length esb ≤ C.slots = room_height C esb (basic o i rest) f.labels.2 in
             let exm = slice_set ex (offset_at C) (values.I32 o) in
             let go = jump 0 (BrIf (lsb + n)) kb in
-            let hm = fits_put C l ex None (LB ∷ Ls) (e ∷ ss) (offset_at C) (values.I32 o) (omega (arith, low)) f.labels in
+            let hm = fits_put C l ex None (LB ∷ Ls) (e ∷ ss) (offset_at C) (values.I32 o) (omega (arith, low)) (kept_all C l ex LB Ls e ss all_kept f.labels) in
             let T0 = st XB (l ++ ex) ops (const (values.I32 o) (set C (offset_at C) (guard C i esb go))) gb co in
             let v0 : To M' 2 2 T0 (st XB (l ++ exm) ops (guard C i esb go) gb co) = mark_to M' C l (len_of l C.locals f.size) o ex f.room in
-            let v1 = verdict_to M M' E gl W C ex e ss ws ix cl r l ops en kd Ls Fs g co exm i go vs below ct (len_of l C.locals f.size) wf.memory rm.0 hm.0 c (λ n. cc) in
+            let v1 = verdict_to M M' E gl W C ex e ss ws ix cl r l ops en kd Ls Fs g co exm i go vs below ct (len_of l C.locals f.size) (wf.memory, tells_length M C g (values.I32 0) (flag_len C g (wf.globals ∙ sym f.flag))) rm.0 hm.0 c (λ n. cc) in
             let v2 : To M' 1 21 (st XB (l ++ exm) ops (guard C i esb go) gb co) (st XB (l ++ exm) (values.I32 1 ∷ ops) go gb co) = subst (λ z. To M' 1 21 (st XB (l ++ exm) ops (guard C i esb go) gb co) (st XB (l ++ exm) (values.I32 (verdict z) ∷ ops) go gb co)) is v1 in
-            landed_trap C ex e ss ws ix cl r l ops en kd Ls Fs g co o i rest f fs wf T0 kb vs below j n c p num (weaken M' (seq M' v0 v2) (omega arith) (omega arith))
+            landed_trap C ex e ss ws ix cl r l ops en kd Ls Fs g co o i rest f fs wf all_kept T0 kb vs below j n c p num (weaken M' (seq M' v0 v2) (omega arith) (omega arith))
 
     stayed : (g' : World) (l' ws' : List Value) (x : Effect) → Stays l x → x ≡ gives g' l' ws' → l' ≡ l
     stayed g' l' ws' x h p = subst (Stays l) p h
@@ -224,7 +227,7 @@ module _ (M M' : Engine) (E : ℕ) (gl : List ValType) (W : Wrap) (S : Stands M 
     plain_sim = acts (cut (takes i) ops) refl
 
   unreachable_sim : (C : Ctx) (ex : List Value) (e : List Place) (ss : List (List Place)) (ws : List Wit) (ix cl : ℕ) (r : Option ValType) (l ops : List Value) (en : ℕ) (kd : Kind) (Ls : List Label) (Fs : List Frame) (g : World) (co : List CollectorCall) (o : ℕ) (rest : Nodes) → FitsFrame M E gl None (frame ix r cl l (label ops (jump o Unreachable rest) en kd ∷ Ls)) (wit C ex (e ∷ ss)) → FitsFrames M E gl W.result r Fs ws → WorldFits M gl g → Comes M M' E gl W (tgt M W C ex e ss ws r l ops kd Ls Fs g co (jump o Unreachable rest)) (traps 1 (config (frame ix r cl l (label ops (jump o Unreachable rest) en kd ∷ Ls) ∷ Fs) g co))
-  unreachable_sim C ex e ss ws ix cl r l ops en kd Ls Fs g co o rest f fs wf = trap_from M M' E gl W S C ex e ss ws ix cl r l ops en kd Ls Fs g co (jump o Unreachable rest) f fs wf _ 0 (jump 0 Unreachable stop)
+  unreachable_sim C ex e ss ws ix cl r l ops en kd Ls Fs g co o rest f fs wf = trap_from M M' E gl W S C ex e ss ws ix cl r l ops en kd Ls Fs g co (jump o Unreachable rest) f fs wf refl _ 0 (jump 0 Unreachable stop)
       (let X = shell W C r kd Ls ss Fs ws in
       let k = jump 0 Unreachable stop in
       let ls = suc (length Ls) in
@@ -247,7 +250,7 @@ module _ (M M' : Engine) (E : ℕ) (gl : List ValType) (W : Wrap) (S : Stands M 
       let left = less (takes i) es in
       let d = suc (length Ls) in
       let X = shell W C r kd Ls ss Fs ws in
-      let code : Option ℕ → Option Place → Nodes = λ x p. free_at C x left (basic 0 i (keep C p left (rewrite C d (pushed p (freed_at x left)) rest))) in
+      let code : Option ℕ → Option Place → Nodes = λ x p. free_at C x left (basic 0 i (lengthened (grows i) C (keep (passes C rest) C p left (rewrite C d (pushed p (freed_at x left)) rest)))) in
       let behind : after_plain C es i ≡ grown (result_type C es i) left = ap₂ (λ (x : Option ℕ) (p : Option Place). pushed p (freed_at x left)) none (given C es) in
       let same : code (local_written i) (result_place C es i) ≡ code None (option_map Spilled (result_type C es i)) = ap₂ code none (given C es) in
       let rm : SmallOffset i × FitsIn C (result_type C es i) left × Room C (grown (result_type C es i) left) rest = (f.labels.2.1, f.labels.2.2, subst (λ (z : List Place). Room C z rest) behind f.labels.2.3) in

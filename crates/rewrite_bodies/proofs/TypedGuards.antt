@@ -1,5 +1,5 @@
 -- The guard of an instruction that is well typed on its operands is well typed.
-use Rattle.std.proofs.Common.{◌≡◌, suc, ◌+◌, ◌/◌, ◌≤◌, List, [], ◌∷◌, length, map, Option, Some, true, sym, ap, ◌∙◌, subst, arith}
+use Rattle.std.proofs.Common.{◌≡◌, suc, ◌+◌, ◌/◌, ◌≤◌, List, [], ◌∷◌, length, map, Option, Some, true, sym, ap, ◌∙◌, arith}
 use Rattle.std.specs.Prelude.{take}
 use Rattle.wasm_syntax.specs.declared.value.ValType.{ValType}
 use Rattle.wasm_syntax.specs.declared.value.ValType.TheVariants.{I32}
@@ -23,7 +23,7 @@ use Rattle.wasm_syntax.specs.calls.Classes.{Divider, by_div_s, by_div_u, by_rem_
 
 -- ---- what the arrows take
 
-any_has : {B : Type 0} (ls : List Limits) (o : Option B) (b : B) → typing.if_any ls o ≡ Some b → HasMemory ls
+pub any_has : {B : Type 0} (ls : List Limits) (o : Option B) (b : B) → typing.if_any ls o ≡ Some b → HasMemory ls
 any_has [] o b e = absurd (cc)
 any_has (l ∷ ls) o b e = tt
 
@@ -44,9 +44,6 @@ module _ (C : Ctx) (m : Module) (locals : List ValType) (off : Offers C m locals
   abbrev Fits : Basic → List Place → Type 0
   Fits i es = Ok at z (I32 ∷ s) k → Ok at z s (guard C i es k)
 
-  has_memory : {B : Type 0} (o : Option B) (b : B) → typing.if_any C.source.memories o ≡ Some b → HasMemory m.memories
-  has_memory o b e = subst HasMemory (sym off.memories) (any_has C.source.memories o b e)
-
   of_division : (op : BinaryOp) → Divider op → (t : ValType) (es : List Place) → length es ≤ C.slots → AllOwn C es → map place_type (take 2 es) ≡ t ∷ t ∷ [] → divides op ≡ true → Fits (Binary t op) es
   of_division op by t [] le w h d g = absurd (cc)
   of_division op by t (b ∷ []) le w h d g = absurd (cc)
@@ -61,24 +58,24 @@ module _ (C : Ctx) (m : Module) (locals : List ValType) (off : Offers C m locals
     where
       load : (es : List Place) → length es ≤ C.slots → AllOwn C es → map place_type (take 1 es) ≡ I32 ∷ [] → Fits (Load l al o) es
       load [] le w h g = absurd (cc)
-      load (p ∷ es) le w h g = ok_guard_memory C m locals off returns p (length es) (o + load_bits l / 8) (omega (arith, le)) (has_memory _ a e) w.0 (one_is h) g
+      load (p ∷ es) le w h g = ok_guard_memory C m locals off returns p (length es) (o + load_bits l / 8) (omega (arith, le)) w.0 (one_is h) g
   guard_ok ls i (risky_store l al o) t a es le w e h d g = store es le w (h ∙ sym (ap (λ z. z.takes) (some_is (only_found _ _ a (any_found C.source.memories _ a e))))) g
     where
       store : (es : List Place) → length es ≤ C.slots → AllOwn C es → map place_type (take 2 es) ≡ store_type l ∷ I32 ∷ [] → Fits (Store l al o) es
       store [] le w h g = absurd (cc)
       store (v ∷ []) le w h g = absurd (cc)
-      store (v ∷ p ∷ es) le w h g = ok_guard_memory C m locals off returns p (length es) (o + store_bits l / 8) (omega (arith, le)) (has_memory _ a e) w.1.0 (two_is h) g
+      store (v ∷ p ∷ es) le w h g = ok_guard_memory C m locals off returns p (length es) (o + store_bits l / 8) (omega (arith, le)) w.1.0 (two_is h) g
   guard_ok ls i risky_copy t a es le w e h d g = copy es le w (h ∙ sym (ap (λ z. z.takes) (some_is (any_found C.source.memories _ a e)))) g
     where
       copy : (es : List Place) → length es ≤ C.slots → AllOwn C es → map place_type (take 3 es) ≡ I32 ∷ I32 ∷ I32 ∷ [] → Fits MemoryCopy es
       copy [] le w h g = absurd (cc)
       copy (n ∷ []) le w h g = absurd (cc)
       copy (n ∷ from ∷ []) le w h g = absurd (cc)
-      copy (n ∷ from ∷ to ∷ es) le w h g = ok_guard_copy C m locals off returns n from to (length es) (omega (arith, le)) (has_memory _ a e) w.0 w.1.0 w.1.1.0 (one_is h) (two_is h) (three_is h) g
+      copy (n ∷ from ∷ to ∷ es) le w h g = ok_guard_copy C m locals off returns n from to (length es) (omega (arith, le)) w.0 w.1.0 w.1.1.0 (one_is h) (two_is h) (three_is h) g
   guard_ok ls i risky_fill t a es le w e h d g = fill es le w (h ∙ sym (ap (λ z. z.takes) (some_is (any_found C.source.memories _ a e)))) g
     where
       fill : (es : List Place) → length es ≤ C.slots → AllOwn C es → map place_type (take 3 es) ≡ I32 ∷ I32 ∷ I32 ∷ [] → Fits MemoryFill es
       fill [] le w h g = absurd (cc)
       fill (n ∷ []) le w h g = absurd (cc)
       fill (n ∷ byte ∷ []) le w h g = absurd (cc)
-      fill (n ∷ byte ∷ to ∷ es) le w h g = ok_guard_fill C m locals off returns n to (length es) (omega (arith, le)) (has_memory _ a e) w.0 w.1.1.0 (one_is h) (three_is h) g
+      fill (n ∷ byte ∷ to ∷ es) le w h g = ok_guard_fill C m locals off returns n to (length es) (omega (arith, le)) w.0 w.1.1.0 (one_is h) (three_is h) g

@@ -3,7 +3,7 @@ use Rattle.rewrite_bodies.proofs.OneKind.{takes_one}
 use Rattle.rewrite_bodies.proofs.Laid.{room_landed}
 use Rattle.rewrite_bodies.proofs.Landed.{same_landing_is}
 use Rattle.rewrite_bodies.specs.calls.Landings.{same_landing, number_of, number_in, landing_of, landing_behind, one_kind, carrying, most_landings, at_end, unless_there, with_some, landing_call, landings_call, landings_jump, landings_from, landed, landing_at, needed, part_of}
-use Rattle.std.proofs.Common.{◌≡◌, ℕ, zero, suc, ◌==◌, if◌then◌else◌, ◌+◌, ◌≤◌, nat_lt, List, [], ◌∷◌, ◌++◌, length, map, reverse, Option, Some, None, Bool, true, false, refl, sym, ap, ap₂, ◌∙◌, subst, subst₂, arith, slice_get, option_map, option_to_list, append_assoc, append-nil, length-append, unwrap_or}
+use Rattle.std.proofs.Common.{◌≡◌, ℕ, zero, suc, ◌==◌, if◌then◌else◌, ◌+◌, ◌≤◌, nat_lt, List, [], ◌∷◌, ◌++◌, length, map, reverse, Option, Some, None, Bool, true, false, refl, sym, ap, ap₂, ◌∙◌, subst, subst₂, arith, slice_get, option_map, option_to_list, append_assoc, append-nil, length-append, unwrap_or, ◌⊎◌, inl, inr}
 use Rattle.std.specs.Prelude.{take}
 use Rattle.std.specs.List.{AllByRecursion}
 use Rattle.std.proofs.lemmas.Option.{slice_get-map}
@@ -13,7 +13,7 @@ use Rattle.wasm_syntax.specs.declared.value.ValType.TheVariants.{I32, I64}
 use Rattle.int_ops.specs.declared.operators.Binary.{Binary as BinaryOp}
 use Rattle.int_ops.specs.declared.operators.Binary.TheVariants.{Add}
 use Rattle.wasm_syntax.specs.declared.instruction.Basic.{Basic}
-use Rattle.wasm_syntax.specs.declared.instruction.Basic.TheVariants.{LocalGet, GlobalSet, Eqz, Binary}
+use Rattle.wasm_syntax.specs.declared.instruction.Basic.TheVariants.{LocalGet, GlobalSet, MemoryGrow, Eqz, Binary}
 use Rattle.wasm_syntax.specs.declared.parts.FuncType.{FuncType}
 use Rattle.wasm_syntax.specs.declared.module.ModuleParts.{ModuleParts as Module}
 use Rattle.wasm_syntax.specs.Numbers.{type_of}
@@ -27,20 +27,20 @@ use Rattle.rewrite_bodies.specs.Numbering.{import_count, mapped, frame_import, f
 use Rattle.wasm_syntax.specs.Run.{table_min}
 use Rattle.rewrite_bodies.specs.calls.Slots.{Place, Spilled, Known, Copied, place_type, Ctx, kind_at, offset_at, added, less, pushed, grown, uncopied, without, under, second_type, result_type, result_place, freed, after_plain, Landing, freed_at, local_written}
 use Rattle.rewrite_bodies.specs.calls.Pieces.{const, get, set, i32, call, if_any, fetch, load, keep, store, reload, drops}
-use Rattle.rewrite_bodies.specs.calls.Guards.{guard, can_trap, kind, helper_type}
-use Rattle.rewrite_bodies.specs.calls.Rewrite.{guarded, tested, free, plain, with_result, after_direct, call_code, helper_of, hand_top, test_both, past_shown, indirect_code, control, rewrite, hand_locals, zero_result, exit_code, body, checked, hand_carried, landing_code, nested, laid, free_at}
+use Rattle.rewrite_bodies.specs.calls.Guards.{guard, can_trap, kind, helper_type, renew}
+use Rattle.rewrite_bodies.specs.calls.Rewrite.{passes, guarded, tested, free, plain, with_result, after_direct, call_code, helper_of, hand_top, test_both, past_shown, indirect_code, control, rewrite, hand_locals, zero_result, exit_code, body, checked, hand_carried, landing_code, nested, laid, free_at, grows, lengthened}
 use Rattle.rewrite_bodies.specs.calls.Agreement.{FitsIn, Room_call, Room, Room_jump}
 use Rattle.rewrite_bodies.specs.calls.Typed.{Info, in_block, in_loop, in_body, carries, Own, AllOwn, Offers, original, rewritten}
 use Rattle.rewrite_bodies.proofs.Run.{added_kind, added_offset, slice_get-append}
 use Rattle.rewrite_bodies.proofs.Sim.{grown-append}
 use Rattle.rewrite_bodies.proofs.Unwind.{less_shorter}
-use Rattle.rewrite_bodies.proofs.TypedPieces.{Ok, ok_basic, ok_binary, ok_const, ok_eqz, IsExit, at_labels, ok_if, ok_call, ok_get, ok_set, ok_fetch, ok_load, ok_store, ok_keep, ok_keep_result, ok_reload, ok_drops, ok_spill, ok_hand_value, ok_tested, ok_test_flag, ok_test_both, ok_kind_signed, ok_landing, ok_branch, ok_hand}
-use Rattle.rewrite_bodies.proofs.TypedGuards.{one_is, guard_ok}
+use Rattle.rewrite_bodies.proofs.TypedPieces.{Ok, ok_basic, ok_binary, ok_const, ok_eqz, IsExit, at_labels, ok_if, ok_call, ok_get, ok_set, ok_fetch, ok_load, ok_store, ok_keep, ok_keep_result, ok_reload, ok_drops, ok_spill, ok_hand_value, ok_tested, ok_test_flag, ok_test_both, ok_kind_signed, ok_landing, ok_branch, ok_hand, HasMemory, ok_renew, ok_lengthened}
+use Rattle.rewrite_bodies.proofs.TypedGuards.{any_has, one_is, guard_ok}
 use Rattle.rewrite_bodies.proofs.Copies.{Fixed, fixed_under, without_append, freed_append, pushed_append}
 use Rattle.wasm_laws.proofs.Progress.{takes_len}
 use Rattle.pm_text.proofs.Lists.{some_is, get_front}
 use Rattle.wasm_syntax.proofs.Types.{any_found, then_found, map_found, only_found}
-use Rattle.rewrite_bodies.proofs.Risks.{risk_of, Treated, gets, sets, tees, constant, spills, treated, result_by, result_typed}
+use Rattle.rewrite_bodies.proofs.Risks.{risk_of, growth, Treated, gets, sets, tees, constant, spills, treated, result_by, result_typed}
 use Rattle.wasm_syntax.specs.calls.Classes.{Divider, by_div_s, by_div_u, by_rem_s, by_rem_u, Risky, risky_binary, risky_load, risky_store, risky_copy, risky_fill}
 use Rattle.wasm_syntax.specs.calls.Classes.{TypeSource, DropsAny, SelectsAny, FromLocal, IntoLocal, TeesLocal, FromGlobal, IntoGlobal, OverMemory, OfItself, type_source, source_arrow, source_takes}
 use Rattle.wasm_syntax.proofs.Classes.{arrow_is, takes_is}
@@ -356,10 +356,21 @@ module _ (C : Ctx) (m : Module) (locals : List ValType) (off : Offers C m locals
   free_ok None es le w g = g
   free_ok (Some x) es le w g = ok_spill C m locals off returns (λ y. x == y) es le w g
 
-  plain_ok : (ls : List Info) (i : Basic) (own js : List Place) (o : ℕ) (rest : Nodes) (between z : List ValType) → Fixed js → BasicTypes (original C ls) i (map place_type own) between → AllOwn C (own ++ js) → Room C (own ++ js) (basic o i rest) → Rest ls js rest between z → Ok (at (inside ls)) z (map place_type own) (plain C (length ls) (own ++ js) o i (λ es'. rewrite C (length ls) es' rest))
+  -- `memory.grow` has a memory
+  grows_over : (ls : List Info) (i : Basic) (t : ValType) (a : Arrow) → arrow (original C ls) t i ≡ Some a → grows i ≡ true → HasMemory m.memories
+  grows_over ls i t a e g = by_growth (growth i)
+    where
+      by_growth : (i ≡ MemoryGrow) ⊎ (grows i ≡ false) → HasMemory m.memories
+      by_growth (inl same) =
+          let e1 = subst (λ i. arrow (original C ls) t i ≡ Some a) same e in
+          subst HasMemory (sym off.memories) (any_has C.source.memories _ a e1)
+      by_growth (inr stays) = absurd (cc)
+
+  plain_ok : (ls : List Info) (i : Basic) (own js : List Place) (o : ℕ) (rest : Nodes) (between z : List ValType) → Fixed js → BasicTypes (original C ls) i (map place_type own) between → AllOwn C (own ++ js) → Room C (own ++ js) (basic o i rest) → Rest ls js rest between z → Ok (at (inside ls)) z (map place_type own) (plain C (length ls) (own ++ js) o i (passes C rest) (λ es'. rewrite C (length ls) es' rest))
   plain_ok ls i own js o rest between z f h w rm ih =
       let es = own ++ js in
       let d = length ls in
+      let pass = passes C rest in
       let n = takes i in
       let p = result_place C es i in
       let a = h.arrow_is in
@@ -373,16 +384,18 @@ module _ (C : Ctx) (m : Module) (locals : List ValType) (off : Offers C m locals
       let between_is : map place_type own2 ≡ between = behind_types C es i T.own1 ∙ T.after in
       let k1 : Ok (at (inside ls)) z between k = subst (λ x. Ok (at (inside ls)) z between (rewrite C d x rest)) (sym conv) (ih own2 between_is (subst (AllOwn C) conv (own_after C i es w)) (subst (λ x. Room C x rest) conv rm.3)) in
       let gives_is_ : a.gives ++ below ≡ option_to_list (option_map place_type p) ++ below = ap (λ (y : List ValType). y ++ below) (T.gives ∙ ap option_to_list (sym (result_is C es i))) in
-      let k2 : Ok (at (inside ls)) z (a.gives ++ below) (keep C p left k) = subst (λ x. Ok (at (inside ls)) z x (keep C p left k)) (sym gives_is_) (ok_keep C m locals off returns below p left (subst (λ x. FitsIn C x left) (sym (result_is C es i)) rm.2) (subst (λ x. Ok (at (inside ls)) z x k) (h.above.gives ∙ gives_is_) k1)) in
-      let k3 : Ok (at (inside ls)) z (a.takes ++ below) (basic 0 i (keep C p left k)) = ok_basic below i h.any a (arrow_kept ls (inside ls) h.any i a h.has) k2 in
-      let k4 : Ok (at (inside ls)) z (map place_type own) (free C i left (basic 0 i (keep C p left k))) = free_ok (local_written i) left low (own_less C n es w) (subst (λ x. Ok (at (inside ls)) z x (basic 0 i (keep C p left k))) (sym h.above.takes) k3) in
-      guarded_ok ls z i h.any a own js below o (free C i left (basic 0 i (keep C p left k))) (needs C o i) rm.0 w h.has T.taken h.above.takes (needs_trap C o i) k4
+      let k2 : Ok (at (inside ls)) z (a.gives ++ below) (keep pass C p left k) = subst (λ x. Ok (at (inside ls)) z x (keep pass C p left k)) (sym gives_is_) (ok_keep C m locals off returns pass below p left (subst (λ x. FitsIn C x left) (sym (result_is C es i)) rm.2) (subst (λ x. Ok (at (inside ls)) z x k) (h.above.gives ∙ gives_is_) k1)) in
+      let kept = lengthened (grows i) C (keep pass C p left k) in
+      let k2b : Ok (at (inside ls)) z (a.gives ++ below) kept = ok_lengthened C m locals off returns (grows i) (grows_over ls i h.any a h.has) k2 in
+      let k3 : Ok (at (inside ls)) z (a.takes ++ below) (basic 0 i kept) = ok_basic below i h.any a (arrow_kept ls (inside ls) h.any i a h.has) k2b in
+      let k4 : Ok (at (inside ls)) z (map place_type own) (free C i left (basic 0 i kept)) = free_ok (local_written i) left low (own_less C n es w) (subst (λ x. Ok (at (inside ls)) z x (basic 0 i kept)) (sym h.above.takes) k3) in
+      guarded_ok ls z i h.any a own js below o (free C i left (basic 0 i kept)) (needs C o i) rm.0 w h.has T.taken h.above.takes (needs_trap C o i) k4
 
   -- ---- calls
 
-  after_ok : (ls : List Info) (z s : List ValType) (q : Bool) (r : Option ValType) (left : List Place) (o : ℕ) (rest : Nodes) → length left ≤ C.slots → AllOwn C left → FitsIn C r left → Ok (at (inside ls)) z (option_to_list r ++ s) (rewrite C (length ls) (grown r left) rest) → Ok (at (inside ls)) z (option_to_list r ++ s) (after_direct q C (length ls) r left o (λ es'. rewrite C (length ls) es' rest))
-  after_ok ls z s true r left o rest le w fit k = ok_keep_result C m locals off returns s r left fit k
-  after_ok ls z s false r left o rest le w fit k = ok_keep_result C m locals off returns s r left fit (ok_test_flag C m locals off returns (length ls) left o le w (exit_there ls) (λ n is. land_there ls (landing_behind (part_of C.locals o) left) n is) k)
+  after_ok : (ls : List Info) (z s : List ValType) (q : Bool) (r : Option ValType) (left : List Place) (o : ℕ) (rest : Nodes) → length left ≤ C.slots → AllOwn C left → FitsIn C r left → Ok (at (inside ls)) z (option_to_list r ++ s) (rewrite C (length ls) (grown r left) rest) → Ok (at (inside ls)) z (option_to_list r ++ s) (after_direct q C (length ls) r left o (passes C rest) (λ es'. rewrite C (length ls) es' rest))
+  after_ok ls z s true r left o rest le w fit k = ok_renew C m locals off returns (ok_keep_result C m locals off returns (passes C rest) s r left fit k)
+  after_ok ls z s false r left o rest le w fit k = ok_keep_result C m locals off returns (passes C rest) s r left fit (ok_test_flag C m locals off returns (length ls) left o le w (exit_there ls) (λ n is. land_there ls (landing_behind (part_of C.locals o) left) n is) k)
 
   -- what a call leaves, and its result
   pub record Called (type : FuncType) (own js : List Place) (rest : Nodes) (ls : List Info) (z below : List ValType) : Type 0 where
@@ -399,7 +412,7 @@ module _ (C : Ctx) (m : Module) (locals : List ValType) (off : Offers C m locals
       let w1 : AllOwn C (grown r (less n (own ++ js))) = own_grown C r (less n (own ++ js)) (own_less C n (own ++ js) w) in
       record { taken = c.taken_are; goes = subst (λ y. Ok (at (inside ls)) z y (rewrite C (length ls) (grown r (less n (own ++ js))) rest)) gv (subst (λ x. Ok (at (inside ls)) z between (rewrite C (length ls) x rest)) (sym conv) (ih (grown r c.own1) e (subst (AllOwn C) conv w1) (subst (λ x. Room C x rest) conv rm))) }
 
-  call_ok : (ls : List Info) (f : ℕ) (own js : List Place) (o : ℕ) (rest : Nodes) (between z : List ValType) → JumpTypes (original C ls) (Call f) (map place_type own) between → AllOwn C (own ++ js) → Room C (own ++ js) (jump o (Call f) rest) → Rest ls js rest between z → Ok (at (inside ls)) z (map place_type own) (call_code C (length ls) (own ++ js) o f (type_at C.source f) (λ es'. rewrite C (length ls) es' rest))
+  call_ok : (ls : List Info) (f : ℕ) (own js : List Place) (o : ℕ) (rest : Nodes) (between z : List ValType) → JumpTypes (original C ls) (Call f) (map place_type own) between → AllOwn C (own ++ js) → Room C (own ++ js) (jump o (Call f) rest) → Rest ls js rest between z → Ok (at (inside ls)) z (map place_type own) (call_code C (length ls) (own ++ js) o f (type_at C.source f) (passes C rest) (λ es'. rewrite C (length ls) es' rest))
   call_ok ls f own js o rest between z h w rm ih =
       let type = h.0 in
       let es = own ++ js in
@@ -410,13 +423,13 @@ module _ (C : Ctx) (m : Module) (locals : List ValType) (off : Offers C m locals
       let room = subst (λ q. Room_call C q es (λ es'. Room C es' rest)) h.1 rm.1 in
       let c = called_ok ls type own js rest between h.2.below z one h.2.takes h.2.gives w room.1 ih in
       let q = nat_lt f (import_count C.source) in
-      let code = after_direct q C (length ls) r left o (λ es'. rewrite C (length ls) es' rest) in
+      let code = after_direct q C (length ls) r left o (passes C rest) (λ es'. rewrite C (length ls) es' rest) in
       let low : length left ≤ C.slots = omega (arith, less_shorter n es, rm.0) in
       let goes = subst (λ x. Ok (at (inside ls)) z (x ++ h.2.below) (rewrite C (length ls) (grown r left) rest)) one c.goes in
       let k1 : Ok (at (inside ls)) z (reverse type.results ++ h.2.below) code = subst (λ x. Ok (at (inside ls)) z (x ++ h.2.below) code) (sym one) (after_ok ls z h.2.below q r left o rest low (own_less C n es w) room.0 goes) in
       let k2 : Ok (at (inside ls)) z (reverse type.params ++ h.2.below) (call (mapped C.source f) code) = ok_call h.2.below (mapped C.source f) type (off.functions f type h.1) k1 in
       let k3 : Ok (at (inside ls)) z (map place_type own) (call (mapped C.source f) code) = subst (λ x. Ok (at (inside ls)) z x (call (mapped C.source f) code)) (sym h.2.takes) k2 in
-      subst (λ q. Ok (at (inside ls)) z (map place_type own) (call_code C (length ls) es o f q (λ es'. rewrite C (length ls) es' rest))) (sym h.1) k3
+      subst (λ q. Ok (at (inside ls)) z (map place_type own) (call_code C (length ls) es o f q (passes C rest) (λ es'. rewrite C (length ls) es' rest))) (sym h.1) k3
 
   -- the index of an entry is moved
   ok_past : {labels : List (List ValType)} {z s : List ValType} {k : Nodes} (q : Bool) → Ok (at labels) z (I32 ∷ s) k → Ok (at labels) z (I32 ∷ s) (past_shown q C k)
@@ -452,12 +465,13 @@ module _ (C : Ctx) (m : Module) (locals : List ValType) (off : Offers C m locals
       let called_ : Ok (at ([] ∷ labels)) [] (I32 ∷ (reverse type.params ++ [])) inner = ok_past (doubles C.source) entered in
       let arm : Ok (at ([] ∷ labels)) [] [] (load C (suc n) (p ∷ es) inner) = ok_load C m locals off returns (suc n) (p ∷ es) inner rm.0 w (subst₂ (λ x y. Ok (at ([] ∷ labels)) [] (x ∷ (y ++ [])) inner) (sym pt) (sym c.taken) called_) in
       let goes = subst (λ x. Ok (at labels) z (x ++ h.3.below) k) one c.goes in
-      let back : Ok (at labels) z h.3.below (reload C r left k) = ok_reload C m locals off returns r left room.0 goes in
+      let kr = renew C.source (reload C r left k) in
+      let back : Ok (at labels) z h.3.below kr = ok_renew C m locals off returns (ok_reload C m locals off returns r left room.0 goes) in
       let count : length (I32 ∷ reverse type.params) ≡ suc n = ap suc (length-reverse type.params) in
-      let drop0 : Ok (at labels) z (I32 ∷ (reverse type.params ++ h.3.below)) (drops (suc n) (reload C r left k)) = subst (λ x. Ok (at labels) z (I32 ∷ (reverse type.params ++ h.3.below)) (drops x (reload C r left k))) count (ok_drops C m locals off returns (I32 ∷ reverse type.params) back) in
-      let drop1 : Ok (at labels) z s (drops (suc n) (reload C r left k)) = subst (λ x. Ok (at labels) z x (drops (suc n) (reload C r left k))) (sym e) drop0 in
+      let drop0 : Ok (at labels) z (I32 ∷ (reverse type.params ++ h.3.below)) (drops (suc n) kr) = subst (λ x. Ok (at labels) z (I32 ∷ (reverse type.params ++ h.3.below)) (drops x kr)) count (ok_drops C m locals off returns (I32 ∷ reverse type.params) back) in
+      let drop1 : Ok (at labels) z s (drops (suc n) kr) = subst (λ x. Ok (at labels) z x (drops (suc n) kr)) (sym e) drop0 in
       let both = ok_test_both C m locals off returns d (suc n) (p ∷ es) left o rm.0 low w (own_less C n es w.1) (exit_there ls) drop1 in
-      let tail = set C (kind_at C) (get C (kind_at C) (basic 0 (Eqz I32) (if_any (load C (suc n) (p ∷ es) inner) (test_both C d left o others (drops (suc n) (reload C r left k)))))) in
+      let tail = set C (kind_at C) (get C (kind_at C) (basic 0 (Eqz I32) (if_any (load C (suc n) (p ∷ es) inner) (test_both C d left o others (drops (suc n) kr))))) in
       let k1 : Ok (at labels) z (I32 ∷ s) tail = ok_set C m locals off returns (kind_at C) I32 (added_kind C.slots) (ok_get C m locals off returns (kind_at C) I32 (added_kind C.slots) (ok_eqz I32 (ok_if arm both))) in
       let k2 : Ok (at labels) z (I32 ∷ s) (call (helper_of C t) tail) = ok_call s (helper_of C t) helper_type (off.helpers t rm.1.0) k1 in
       let k3 : Ok (at labels) z s (fetch C p (length es) (call (helper_of C t) tail)) = ok_fetch C m locals off returns p (length es) high w.0 (subst (λ u. Ok (at labels) z (u ∷ s) (call (helper_of C t) tail)) (sym pt) k2) in
@@ -473,7 +487,7 @@ module _ (C : Ctx) (m : Module) (locals : List ValType) (off : Offers C m locals
       let k = ih own (below ∙ sym h.2.gives) w.1 rm.1 in
       record { typed = (between, (h.0, label_there ls l h.0 h.1, record { below = h.2.below; takes = h.2.takes; gives = h.2.gives }), k.typed) }
 
-  control_ok : returns ≡ option_to_list C.result → (ls : List Info) (j : Jump) (own js : List Place) (o : ℕ) (rest : Nodes) (between z : List ValType) → JumpTypes (original C ls) j (map place_type own) between → AllOwn C (own ++ js) → Room C (own ++ js) (jump o j rest) → Rest ls js rest between z → Ok (at (inside ls)) z (map place_type own) (control C (length ls) (own ++ js) o j (λ es'. rewrite C (length ls) es' rest))
+  control_ok : returns ≡ option_to_list C.result → (ls : List Info) (j : Jump) (own js : List Place) (o : ℕ) (rest : Nodes) (between z : List ValType) → JumpTypes (original C ls) j (map place_type own) between → AllOwn C (own ++ js) → Room C (own ++ js) (jump o j rest) → Rest ls js rest between z → Ok (at (inside ls)) z (map place_type own) (control C (length ls) (own ++ js) o j (passes C rest) (λ es'. rewrite C (length ls) es' rest))
   control_ok result_ ls Unreachable own js o rest between z h w rm ih =
       ok_const (i32 1) (ok_tested C m locals off returns (length ls) (own ++ js) o (const (i32 1)) rm.0 w (exit_there ls) (λ arm y. ok_const (i32 1) y) (record { typed = (z, tt, refl) }))
   control_ok result_ ls (Br l) own js o rest between z h w rm ih = record { typed = (z, (h.0, label_there ls l h.0 h.1, h.2), refl) }
@@ -484,10 +498,10 @@ module _ (C : Ctx) (m : Module) (locals : List ValType) (off : Offers C m locals
   control_ok result_ ls (CallIndirect t) own js o rest between z h w rm ih = indirect_ok ls t own js o rest between z h w rm ih
 
   -- behind a block
-  behind_ok : (ls : List Info) (t : Option ValType) (own js : List Place) (rest : Nodes) (before z : List ValType) → map place_type own ≡ before → AllOwn C (own ++ js) → FitsIn C t (own ++ js) → Room C (grown t (own ++ js)) rest → Rest ls js rest (option_to_list t ++ before) z → Ok (at (inside ls)) z (option_to_list t ++ before) (with_result C t (own ++ js) (λ es'. rewrite C (length ls) es' rest))
+  behind_ok : (ls : List Info) (t : Option ValType) (own js : List Place) (rest : Nodes) (before z : List ValType) → map place_type own ≡ before → AllOwn C (own ++ js) → FitsIn C t (own ++ js) → Room C (grown t (own ++ js)) rest → Rest ls js rest (option_to_list t ++ before) z → Ok (at (inside ls)) z (option_to_list t ++ before) (with_result C t (own ++ js) (passes C rest) (λ es'. rewrite C (length ls) es' rest))
   behind_ok ls t own js rest before z e w fit rm ih =
       let conv = grown-append t own js in
-      ok_keep_result C m locals off returns before t (own ++ js) fit (subst (λ x. Ok (at (inside ls)) z (option_to_list t ++ before) (rewrite C (length ls) x rest)) (sym conv) (ih (grown t own) (grown_types t own before e) (subst (AllOwn C) conv (own_grown C t (own ++ js) w)) (subst (λ x. Room C x rest) conv rm)))
+      ok_keep_result C m locals off returns (passes C rest) before t (own ++ js) fit (subst (λ x. Ok (at (inside ls)) z (option_to_list t ++ before) (rewrite C (length ls) x rest)) (sym conv) (ih (grown t own) (grown_types t own before e) (subst (AllOwn C) conv (own_grown C t (own ++ js) w)) (subst (λ x. Room C x rest) conv rm)))
 
   pub rewrite_ok : returns ≡ option_to_list C.result → (nodes : Nodes) (ls : List Info) (own js : List Place) (before z : List ValType) → map place_type own ≡ before → Fixed js → AllOwn C (own ++ js) → Room C (own ++ js) nodes → Types (original C ls) nodes before z → Ok (at (inside ls)) z before (rewrite C (length ls) (own ++ js) nodes)
   rewrite_ok result_ stop ls own js before z e f w rm ty = record { typed = ty }
@@ -505,7 +519,7 @@ module _ (C : Ctx) (m : Module) (locals : List ValType) (off : Offers C m locals
       let fu : Fixed (u ++ js) = subst Fixed sp (fixed_under es) in
       let a = rewrite_ok result_ inner (in_block t ∷ ls) [] (u ++ js) [] (option_to_list t) refl fu wu (subst (λ x. Room C x inner) sp rm.1) ty.0 in
       let b = behind_ok ls t u js rest before z (without_types (λ x. true) own ∙ e) wu (subst (FitsIn C t) sp rm.2) (subst (λ x. Room C (grown t x) rest) sp rm.3) (λ own' e' w' rm'. rewrite_ok result_ rest ls own' js (option_to_list t ++ before) z e' f w' rm' ty.1) in
-      let code = λ (x : List Place). block 0 t (rewrite C (suc (length ls)) x inner) 0 (with_result C t x (λ es'. rewrite C (length ls) es' rest)) in
+      let code = λ (x : List Place). block 0 t (rewrite C (suc (length ls)) x inner) 0 (with_result C t x (passes C rest) (λ es'. rewrite C (length ls) es' rest)) in
       let k : Ok (at (inside ls)) z before (code (u ++ js)) = record { typed = (a.typed, b.typed) } in
       ok_spill C m locals off returns (λ x. true) es rm.0 w (subst (λ x. Ok (at (inside ls)) z before (code x)) (sym sp) k)
   rewrite_ok result_ (loop o t inner end rest) ls own js before z e f w rm ty =
@@ -516,7 +530,7 @@ module _ (C : Ctx) (m : Module) (locals : List ValType) (off : Offers C m locals
       let fu : Fixed (u ++ js) = subst Fixed sp (fixed_under es) in
       let a = rewrite_ok result_ inner (in_loop t ∷ ls) [] (u ++ js) [] (option_to_list t) refl fu wu (subst (λ x. Room C x inner) sp rm.1) ty.0 in
       let b = behind_ok ls t u js rest before z (without_types (λ x. true) own ∙ e) wu (subst (FitsIn C t) sp rm.2) (subst (λ x. Room C (grown t x) rest) sp rm.3) (λ own' e' w' rm'. rewrite_ok result_ rest ls own' js (option_to_list t ++ before) z e' f w' rm' ty.1) in
-      let code = λ (x : List Place). loop 0 t (rewrite C (suc (length ls)) x inner) 0 (with_result C t x (λ es'. rewrite C (length ls) es' rest)) in
+      let code = λ (x : List Place). loop 0 t (rewrite C (suc (length ls)) x inner) 0 (with_result C t x (passes C rest) (λ es'. rewrite C (length ls) es' rest)) in
       let k : Ok (at (inside ls)) z before (code (u ++ js)) = record { typed = (a.typed, b.typed) } in
       ok_spill C m locals off returns (λ x. true) es rm.0 w (subst (λ x. Ok (at (inside ls)) z before (code x)) (sym sp) k)
   rewrite_ok result_ (choose o t x ea y end rest) ls [] js before z e f w rm ty = absurd (let q : [] ≡ I32 ∷ ty.2 = e ∙ ty.3 in cc)
@@ -531,7 +545,7 @@ module _ (C : Ctx) (m : Module) (locals : List ValType) (off : Offers C m locals
       let a = rewrite_ok result_ x (in_block t ∷ ls) [] (u ++ js) [] (option_to_list t) refl fu wu (subst (λ v. Room C v x) sp rm.1) ty.0 in
       let b = rewrite_ok result_ y (in_block t ∷ ls) [] (u ++ js) [] (option_to_list t) refl fu wu (subst (λ v. Room C v y) sp rm.2) ty.1 in
       let c = behind_ok ls t u js rest ty.2 z (without_types (λ x. true) own ∙ below) wu (subst (FitsIn C t) sp rm.3) (subst (λ v. Room C (grown t v) rest) sp rm.4) (λ own' e' w' rm'. rewrite_ok result_ rest ls own' js (option_to_list t ++ ty.2) z e' f w' rm' ty.4) in
-      let code = λ (v : List Place). choose 0 t (rewrite C (suc (length ls)) v x) (option_map (λ at. 0) ea) (rewrite C (suc (length ls)) v y) 0 (with_result C t v (λ es'. rewrite C (length ls) es' rest)) in
+      let code = λ (v : List Place). choose 0 t (rewrite C (suc (length ls)) v x) (option_map (λ at. 0) ea) (rewrite C (suc (length ls)) v y) 0 (with_result C t v (passes C rest) (λ es'. rewrite C (length ls) es' rest)) in
       let k : Ok (at (inside ls)) z before (code (u ++ js)) = record { typed = (a.typed, b.typed, ty.2, ty.3, c.typed) } in
       let high : length es ≤ C.slots = omega (arith, rm.0) in
       ok_spill C m locals off returns (λ x. true) es high w.1 (subst (λ v. Ok (at (inside ls)) z before (code v)) (sym sp) k)
@@ -685,7 +699,7 @@ module _ (C : Ctx) (m : Module) (locals : List ValType) (off : Offers C m locals
 -- the rewritten module offers the same with landings
 pub offers_landed : (C : Ctx) (m : Module) (locals : List ValType) (os : List ℕ) (xs : List Landing) → Offers C m locals → Offers (landed C os xs) m locals
 offers_landed C m locals os xs off =
-    record { locals_are = off.locals_are; globals = off.globals; flag = off.flag; flag_there = off.flag_there; flag_type = off.flag_type; flag_mutable = off.flag_mutable; memories = off.memories; tables = off.tables; types = off.types; functions = off.functions; values = off.values; frames = off.frames; helpers = off.helpers; one_result = off.one_result; one_result_of = off.one_result_of }
+    record { locals_are = off.locals_are; globals = off.globals; flag = off.flag; flag_there = off.flag_there; flag_type = off.flag_type; flag_mutable = off.flag_mutable; length_ = off.length_; length_there = off.length_there; length_type = off.length_type; length_mutable = off.length_mutable; memories = off.memories; tables = off.tables; types = off.types; functions = off.functions; values = off.values; frames = off.frames; helpers = off.helpers; one_result = off.one_result; one_result_of = off.one_result_of }
 
 pub body_ok : (C : Ctx) (m : Module) (locals : List ValType) → Offers C m locals → (nodes : Nodes) → Room C [] nodes → Types (original C (in_body C.result ∷ [])) nodes [] (option_to_list C.result) → Types (rewritten C m locals) (body C nodes) [] (option_to_list C.result)
 body_ok C m locals off nodes rm ty =

@@ -11,8 +11,9 @@ use Rattle.int_ops.specs.declared.operators.Binary.TheVariants.{Add, And, Or, Sh
 use Rattle.int_ops.specs.declared.operators.Compare.TheVariants.{Eq, GtU, GtS}
 use Rattle.wasm_syntax.specs.declared.instruction.Convert.TheVariants.{ExtendU}
 use Rattle.wasm_syntax.specs.declared.instruction.Basic.{Basic}
-use Rattle.wasm_syntax.specs.declared.instruction.Basic.TheVariants.{Drop, Select, LocalGet, LocalSet, LocalTee, GlobalGet, MemorySize, Const, Eqz, Compare, Binary, Convert}
+use Rattle.wasm_syntax.specs.declared.instruction.Basic.TheVariants.{Drop, Select, LocalGet, LocalSet, LocalTee, GlobalGet, GlobalSet, MemorySize, Const, Eqz, Compare, Binary, Convert}
 use Rattle.wasm_syntax.specs.declared.parts.FuncType.{FuncType}
+use Rattle.wasm_syntax.specs.declared.parts.Global.{Global}
 use Rattle.wasm_syntax.specs.declared.parts.Limits.{Limits}
 use Rattle.wasm_syntax.specs.declared.module.ModuleParts.{ModuleParts as Module}
 use Rattle.wasm_syntax.specs.Numbers.{type_of, value}
@@ -21,9 +22,9 @@ use Rattle.wasm_syntax.specs.Module.{type_at}
 use Rattle.wasm_syntax.specs.Typing.{Context, Arrow, ◌⇒◌, arrow, Types}
 use Rattle.rewrite_bodies.specs.calls.Slots.{Place, Spilled, Known, Copied, place_type, Ctx, slot, kind_at, offset_at, added}
 use Rattle.rewrite_bodies.specs.Numbering.{value_import, flag_of}
-use Rattle.rewrite_bodies.specs.calls.Pieces.{get, set, const, i32, call, if_any, fetch, load, keep, store, reload, spill_one, spill, drops}
-use Rattle.rewrite_bodies.specs.calls.Guards.{guard_zero, guard_signed, past_end, guard_memory, range_test, guard_copy, guard_fill, kind_signed, memory_length}
-use Rattle.rewrite_bodies.specs.calls.Rewrite.{hand_value, hand, hand_top, to_exit, unwind, test_flag, test_both, unwind_kind, tested, checked, get_flag}
+use Rattle.rewrite_bodies.specs.calls.Pieces.{get, set, const, i32, call, if_any, fetch, load, keep_slot, keep, store, reload, spill_one, spill, drops}
+use Rattle.rewrite_bodies.specs.calls.Guards.{guard_zero, guard_signed, past_end, guard_memory, range_test, guard_copy, guard_fill, kind_signed, length_of, get_length, set_length, renewed, renew}
+use Rattle.rewrite_bodies.specs.calls.Rewrite.{hand_value, hand, hand_top, to_exit, unwind, test_flag, test_both, unwind_kind, tested, checked, get_flag, lengthened}
 use Rattle.rewrite_bodies.specs.calls.Agreement.{FitsIn}
 use Rattle.rewrite_bodies.specs.calls.Typed.{Own, AllOwn, Offers}
 use Rattle.pm_text.proofs.Lists.{get_front}
@@ -61,6 +62,24 @@ IsExit d labels = slice_get labels d ≡ Some []
 abbrev pub HasMemory : List Limits → Type 0
 HasMemory [] = ⊥
 HasMemory (l ∷ ls) = Unit {0}
+
+ok_size : {c : Context} {z s : List ValType} {k : Nodes} → HasMemory c.module_.memories → Ok c z (I32 ∷ s) k → Ok c z s (basic 0 MemorySize k)
+ok_size {c = c} {s = s} has h = ok_basic s MemorySize I32 ([] ⇒ I32 ∷ []) (there c.module_.memories has) h
+  where
+    there : (ls : List Limits) → HasMemory ls → Rattle.wasm_syntax.specs.Typing.if_any ls (Some ([] ⇒ I32 ∷ [])) ≡ Some ([] ⇒ I32 ∷ [])
+    there [] has = absurd has
+    there (l ∷ ls) has = refl
+
+-- the global of the length, where this is one of an i64 that is written
+module _ (src : Module) (g : Global) where
+  pub ok_set_length : {c : Context} {z s : List ValType} {k : Nodes} → slice_get c.module_.globals (length_of src) ≡ Some g → g.vtype ≡ I64 → g.mutable ≡ true → HasMemory c.module_.memories → Ok c z s k → Ok c z s (set_length src k)
+  ok_set_length {c = c} {s = s} there type written has h =
+      let e : arrow c I64 (GlobalSet (length_of src)) ≡ Some (I64 ∷ [] ⇒ []) = rw (there, written, type) refl in
+      ok_size has (ok_extend (ok_const (values.I64 16) (ok_binary I64 Shl (ok_basic s (GlobalSet (length_of src)) I64 (I64 ∷ [] ⇒ []) e h))))
+
+  pub ok_renewed : {c : Context} {z s : List ValType} {k : Nodes} (ls : List Limits) → c.module_.memories ≡ ls → slice_get c.module_.globals (length_of src) ≡ Some g → g.vtype ≡ I64 → g.mutable ≡ true → Ok c z s k → Ok c z s (renewed ls src k)
+  ok_renewed [] e there type written h = h
+  ok_renewed (l ∷ ls) e there type written h = ok_set_length there type written (subst HasMemory (sym e) tt) h
 
 -- a context with these labels
 abbrev pub at_labels : Module → List ValType → List ValType → List (List ValType) → Context
@@ -112,16 +131,20 @@ module _ (C : Ctx) (m : Module) (locals : List ValType) (off : Offers C m locals
   ok_store None es fit h = h
   ok_store (Some t) es fit h = ok_set (slot t (length es)) t (added_at C.slots (length es) t (omega (arith, fit))) h
 
-  -- a result is kept
-  pub ok_keep : {labels : List (List ValType)} {z : List ValType} {k : Nodes} (s : List ValType) (p : Option Place) (es : List Place) → FitsIn C (option_map place_type p) es → Ok (at labels) z (option_to_list (option_map place_type p) ++ s) k → Ok (at labels) z (option_to_list (option_map place_type p) ++ s) (keep C p es k)
-  ok_keep s None es fit h = h
-  ok_keep s (Some (Spilled t)) es fit h = ok_tee (slot t (length es)) t (added_at C.slots (length es) t (omega (arith, fit))) h
-  ok_keep s (Some (Known v)) es fit h = h
-  ok_keep s (Some (Copied t x)) es fit h = h
+  -- a result is kept, or passes
+  ok_keep_slot : {labels : List (List ValType)} {z : List ValType} {k : Nodes} (q : Bool) (s : List ValType) (t : ValType) (es : List Place) → FitsIn C (Some t) es → Ok (at labels) z (t ∷ s) k → Ok (at labels) z (t ∷ s) (keep_slot q C t es k)
+  ok_keep_slot true s t es fit h = h
+  ok_keep_slot false s t es fit h = ok_tee (slot t (length es)) t (added_at C.slots (length es) t (omega (arith, fit))) h
 
-  pub ok_keep_result : {labels : List (List ValType)} {z : List ValType} {k : Nodes} (s : List ValType) (r : Option ValType) (es : List Place) → FitsIn C r es → Ok (at labels) z (option_to_list r ++ s) k → Ok (at labels) z (option_to_list r ++ s) (keep C (option_map Spilled r) es k)
-  ok_keep_result s None es fit h = h
-  ok_keep_result s (Some t) es fit h = ok_tee (slot t (length es)) t (added_at C.slots (length es) t (omega (arith, fit))) h
+  pub ok_keep : {labels : List (List ValType)} {z : List ValType} {k : Nodes} (q : Bool) (s : List ValType) (p : Option Place) (es : List Place) → FitsIn C (option_map place_type p) es → Ok (at labels) z (option_to_list (option_map place_type p) ++ s) k → Ok (at labels) z (option_to_list (option_map place_type p) ++ s) (keep q C p es k)
+  ok_keep q s None es fit h = h
+  ok_keep q s (Some (Spilled t)) es fit h = ok_keep_slot q s t es fit h
+  ok_keep q s (Some (Known v)) es fit h = h
+  ok_keep q s (Some (Copied t x)) es fit h = h
+
+  pub ok_keep_result : {labels : List (List ValType)} {z : List ValType} {k : Nodes} (q : Bool) (s : List ValType) (r : Option ValType) (es : List Place) → FitsIn C r es → Ok (at labels) z (option_to_list r ++ s) k → Ok (at labels) z (option_to_list r ++ s) (keep q C (option_map Spilled r) es k)
+  ok_keep_result q s None es fit h = h
+  ok_keep_result q s (Some t) es fit h = ok_keep_slot q s t es fit h
 
   pub ok_reload : {labels : List (List ValType)} {z s : List ValType} {k : Nodes} (r : Option ValType) (es : List Place) → FitsIn C r es → Ok (at labels) z (option_to_list r ++ s) k → Ok (at labels) z s (reload C r es k)
   ok_reload None es fit h = h
@@ -199,13 +222,6 @@ module _ (C : Ctx) (m : Module) (locals : List ValType) (off : Offers C m locals
 
   -- ---- guards
 
-  ok_size : {labels : List (List ValType)} {z s : List ValType} {k : Nodes} → HasMemory m.memories → Ok (at labels) z (I32 ∷ s) k → Ok (at labels) z s (basic 0 MemorySize k)
-  ok_size {labels = labels} {s = s} has h = ok_basic s MemorySize I32 ([] ⇒ I32 ∷ []) (there m.memories has) h
-    where
-      there : (ls : List Limits) → HasMemory ls → Rattle.wasm_syntax.specs.Typing.if_any ls (Some ([] ⇒ I32 ∷ [])) ≡ Some ([] ⇒ I32 ∷ [])
-      there [] has = absurd has
-      there (l ∷ ls) has = refl
-
   pub ok_guard_zero : {labels : List (List ValType)} {z s : List ValType} {k : Nodes} (t : ValType) (b : Place) (h : ℕ) → h ≤ C.slots → Own C b → place_type b ≡ t → Ok (at labels) z (I32 ∷ s) k → Ok (at labels) z s (guard_zero C t b h k)
   ok_guard_zero {labels = labels} {z = z} {s = s} {k = k} t b h le w e g =
       ok_fetch b h le w (subst (λ u. Ok (at labels) z (u ∷ s) (basic 0 (Eqz t) k)) (sym e) (ok_eqz t g))
@@ -228,22 +244,30 @@ module _ (C : Ctx) (m : Module) (locals : List ValType) (off : Offers C m locals
       ok_place a t h (omega (arith, le)) wa ea (ok_constant t _ (ok_compare t Eq (ok_place b t (suc h) le wb eb (ok_constant t _ (ok_compare t Eq (ok_binary I32 And
       (ok_guard_zero t b (suc h) le wb eb (ok_binary I32 Or g))))))))
 
-  ok_length : {labels : List (List ValType)} {z s : List ValType} {k : Nodes} → HasMemory m.memories → Ok (at labels) z (I64 ∷ s) k → Ok (at labels) z s (memory_length k)
-  ok_length has h = ok_size has (ok_extend (ok_const (values.I64 16) (ok_binary I64 Shl h)))
+  ok_length : {labels : List (List ValType)} {z s : List ValType} {k : Nodes} → Ok (at labels) z (I64 ∷ s) k → Ok (at labels) z s (get_length C.source k)
+  ok_length {s = s} h = ok_basic s (GlobalGet (length_of C.source)) I32 ([] ⇒ I64 ∷ []) (ap (option_map (λ g. [] ⇒ g.vtype ∷ [])) off.length_there ∙ ap (λ t. Some ([] ⇒ t ∷ [])) off.length_type) h
 
-  ok_past_end : {labels : List (List ValType)} {z s : List ValType} {k : Nodes} → HasMemory m.memories → Ok (at labels) z (I32 ∷ s) k → Ok (at labels) z (I64 ∷ s) (past_end k)
-  ok_past_end has h = ok_length has (ok_compare I64 GtU h)
+  -- behind what may have made the memory longer
+  pub ok_renew : {labels : List (List ValType)} {z s : List ValType} {k : Nodes} → Ok (at labels) z s k → Ok (at labels) z s (renew C.source k)
+  ok_renew h = ok_renewed C.source off.length_ C.source.memories off.memories off.length_there off.length_type off.length_mutable h
 
-  pub ok_guard_memory : {labels : List (List ValType)} {z s : List ValType} {k : Nodes} (a : Place) (h n : ℕ) → h ≤ C.slots → HasMemory m.memories → Own C a → place_type a ≡ I32 → Ok (at labels) z (I32 ∷ s) k → Ok (at labels) z s (guard_memory C a h n k)
-  ok_guard_memory a h n le has w e g =
-      ok_place a I32 h le w e (ok_extend (ok_length has (ok_const (values.I64 n) (ok_binary I64 Sub (ok_compare I64 GtS g)))))
+  pub ok_lengthened : {labels : List (List ValType)} {z s : List ValType} {k : Nodes} (q : Bool) → (q ≡ true → HasMemory m.memories) → Ok (at labels) z s k → Ok (at labels) z s (lengthened q C k)
+  ok_lengthened false has h = h
+  ok_lengthened true has h = ok_set_length C.source off.length_ off.length_there off.length_type off.length_mutable (has refl) h
 
-  ok_range : {labels : List (List ValType)} {z s : List ValType} {k : Nodes} (a : Place) (h : ℕ) (n : Place) (hn : ℕ) → h ≤ C.slots → hn ≤ C.slots → HasMemory m.memories → Own C a → Own C n → place_type a ≡ I32 → place_type n ≡ I32 → Ok (at labels) z (I32 ∷ s) k → Ok (at labels) z s (range_test C a h n hn k)
-  ok_range a h n hn le len has wa wn ea en g = ok_place a I32 h le wa ea (ok_extend (ok_place n I32 hn len wn en (ok_extend (ok_binary I64 Add (ok_past_end has g)))))
+  ok_past_end : {labels : List (List ValType)} {z s : List ValType} {k : Nodes} → Ok (at labels) z (I32 ∷ s) k → Ok (at labels) z (I64 ∷ s) (past_end C.source k)
+  ok_past_end h = ok_length (ok_compare I64 GtU h)
 
-  pub ok_guard_copy : {labels : List (List ValType)} {z s : List ValType} {k : Nodes} (n from to : Place) (h : ℕ) → suc (suc h) ≤ C.slots → HasMemory m.memories → Own C n → Own C from → Own C to → place_type n ≡ I32 → place_type from ≡ I32 → place_type to ≡ I32 → Ok (at labels) z (I32 ∷ s) k → Ok (at labels) z s (guard_copy C n from to h k)
-  ok_guard_copy n from to h le has wn wf wt en ef et g =
-      ok_range from (suc h) n (suc (suc h)) (omega (arith, le)) le has wf wn ef en (ok_range to h n (suc (suc h)) (omega (arith, le)) le has wt wn et en (ok_binary I32 Or g))
+  pub ok_guard_memory : {labels : List (List ValType)} {z s : List ValType} {k : Nodes} (a : Place) (h n : ℕ) → h ≤ C.slots → Own C a → place_type a ≡ I32 → Ok (at labels) z (I32 ∷ s) k → Ok (at labels) z s (guard_memory C a h n k)
+  ok_guard_memory a h n le w e g =
+      ok_place a I32 h le w e (ok_extend (ok_length (ok_const (values.I64 n) (ok_binary I64 Sub (ok_compare I64 GtS g)))))
 
-  pub ok_guard_fill : {labels : List (List ValType)} {z s : List ValType} {k : Nodes} (n to : Place) (h : ℕ) → suc (suc h) ≤ C.slots → HasMemory m.memories → Own C n → Own C to → place_type n ≡ I32 → place_type to ≡ I32 → Ok (at labels) z (I32 ∷ s) k → Ok (at labels) z s (guard_fill C n to h k)
-  ok_guard_fill n to h le has wn wt en et g = ok_range to h n (suc (suc h)) (omega (arith, le)) le has wt wn et en g
+  ok_range : {labels : List (List ValType)} {z s : List ValType} {k : Nodes} (a : Place) (h : ℕ) (n : Place) (hn : ℕ) → h ≤ C.slots → hn ≤ C.slots → Own C a → Own C n → place_type a ≡ I32 → place_type n ≡ I32 → Ok (at labels) z (I32 ∷ s) k → Ok (at labels) z s (range_test C a h n hn k)
+  ok_range a h n hn le len wa wn ea en g = ok_place a I32 h le wa ea (ok_extend (ok_place n I32 hn len wn en (ok_extend (ok_binary I64 Add (ok_past_end g)))))
+
+  pub ok_guard_copy : {labels : List (List ValType)} {z s : List ValType} {k : Nodes} (n from to : Place) (h : ℕ) → suc (suc h) ≤ C.slots → Own C n → Own C from → Own C to → place_type n ≡ I32 → place_type from ≡ I32 → place_type to ≡ I32 → Ok (at labels) z (I32 ∷ s) k → Ok (at labels) z s (guard_copy C n from to h k)
+  ok_guard_copy n from to h le wn wf wt en ef et g =
+      ok_range from (suc h) n (suc (suc h)) (omega (arith, le)) le wf wn ef en (ok_range to h n (suc (suc h)) (omega (arith, le)) le wt wn et en (ok_binary I32 Or g))
+
+  pub ok_guard_fill : {labels : List (List ValType)} {z s : List ValType} {k : Nodes} (n to : Place) (h : ℕ) → suc (suc h) ≤ C.slots → Own C n → Own C to → place_type n ≡ I32 → place_type to ≡ I32 → Ok (at labels) z (I32 ∷ s) k → Ok (at labels) z s (guard_fill C n to h k)
+  ok_guard_fill n to h le wn wt en et g = ok_range to h n (suc (suc h)) (omega (arith, le)) le wt wn et en g

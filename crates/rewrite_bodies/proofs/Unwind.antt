@@ -16,18 +16,21 @@ use Rattle.wasm_syntax.specs.Machine.{Kind, returns, Label, Frame, Config, label
 use Rattle.rewrite_bodies.specs.calls.Slots.{Place, Spilled, place_type, Landing, Ctx, slot, kind_at, offset_at, added, less, grown}
 use Rattle.rewrite_bodies.specs.Numbering.{mapped, value_import, frame_import, flag_of, global_types}
 use Rattle.rewrite_bodies.specs.calls.Pieces.{get, set, const, call, if_any, fetch, keep, store, reload, drops}
-use Rattle.rewrite_bodies.specs.calls.Rewrite.{hand_value, hand, hand_top, to_exit, unwind, hand_left, test_flag, test_both, rewrite, hand_locals, zero_result, raise_flag, exit_code, checked, get_flag, hand_carried, landing_code}
-use Rattle.rewrite_bodies.specs.calls.Agreement.{One, Holds, awaits, pending, joined, t_kind, t_labels, Wit, UnderWay, FitsLabels, WorldFits, FitsFrame, FitsFrames, Wrap, w_frame, zero_vs, last_result, t_frames, flagged}
+use Rattle.rewrite_bodies.specs.calls.Rewrite.{hand_value, hand, hand_top, to_exit, unwind, hand_left, test_flag, test_both, passes, rewrite, hand_locals, zero_result, raise_flag, exit_code, checked, get_flag, hand_carried, landing_code}
+use Rattle.rewrite_bodies.specs.calls.Agreement.{One, Holds, awaits, pending, joined, t_kind, t_labels, Wit, UnderWay, FitsLabels, WorldFits, FitsFrame, FitsFrames, Wrap, w_frame, zero_vs, last_result, t_frames, flagged, byte_count}
 use Rattle.rewrite_bodies.specs.calls.Steps.{Gets, To, Shell, st}
-use Rattle.rewrite_bodies.proofs.Run.{if_same, stored, stored_other, kind_no_slot, types-stored, slice_get-put_same, slice_get-put_other, types-slice_set, added_kind, added_offset, still, one_step, seq, weaken, push_to, get_to, added_get, added_set, fetch_to, store_to, kept_to}
+use Rattle.rewrite_bodies.proofs.Run.{if_same, stored, stored_other, kind_no_slot, types-stored, slice_get-put_same, slice_get-put_other, types-slice_set, added_kind, added_offset, still, one_step, seq, weaken, push_to, get_to, added_get, added_set, fetch_to, store_to}
+use Rattle.rewrite_bodies.proofs.Passing.{stored_unless, types_unless, fits_unless, kept_unless}
 use Rattle.rewrite_bodies.proofs.Parts.{place_of, fits_put, fits_stored, step_plain}
 use Rattle.rewrite_bodies.proofs.Copies.{fits_any}
 use Rattle.dump_write.specs.Collected.{value_call}
 use Rattle.rewrite_bodies.specs.calls.Telling.{tell_ops, tell_labels, tell_locals, tell_frame, tell_outer}
-use Rattle.rewrite_bodies.proofs.Sim.{room_height, grown_fits, len_of, shell, wit, wit_under, armed, if_zero_to, if_up_to}
-use Rattle.rewrite_bodies.proofs.Control.{top_exact, flag_len, get_last, grown_longer, flag_to, both_to}
+use Rattle.rewrite_bodies.proofs.Sim.{room_height, grown_fits, len_of, flag_len, shell, wit, wit_under, armed, if_zero_to, if_up_to}
+use Rattle.rewrite_bodies.proofs.Control.{top_exact, grown_longer, flag_to, both_to}
+use Rattle.rewrite_bodies.proofs.Measures.{get_first, put_first}
 use Rattle.rewrite_bodies.proofs.Landed.{exit_branch, land_branch, mark_to}
 use Rattle.rewrite_bodies.specs.calls.Landings.{number_of, landing_behind, part_of}
+use Rattle.rewrite_bodies.specs.calls.Guards.{renew}
 use Rattle.wasm_syntax.proofs.Types.{same_type_is}
 use Rattle.rewrite_bodies.specs.calls.Standing.{Speaks}
 use Rattle.wasm_laws.proofs.Progress.{same_of}
@@ -81,10 +84,6 @@ tell-parts : (m : ℕ) (ops : List Value) (co : List CollectorCall) → tell_ops
 tell-parts zero ops co = refl
 tell-parts (suc m) [] co = refl
 tell-parts (suc m) (v ∷ ops) co = ap (λ z. value_call v ∷ z) (tell-parts m ops co)
-
-pub put_last : (g : List Value) (n : ℕ) (b v : Value) → n ≡ length g → slice_set (g ++ b ∷ []) n v ≡ g ++ v ∷ []
-put_last [] n b v e = let z : n ≡ 0 = e in rw z refl
-put_last (u ∷ g) n b v e = let z : n ≡ suc (length g) = e in rw z (ap (λ r. u ∷ r) (put_last g (length g) b v refl))
 
 pub get_middle : (done todo ex : List Value) (v : Value) → slice_get ((done ++ v ∷ todo) ++ ex) (length done) ≡ Some v
 get_middle [] todo ex v = refl
@@ -181,8 +180,9 @@ module _ (M' : Engine) (C : Ctx) (sp : Speaks M' C.source) where
       subst (λ m. To M' 0 (2 * length l) (st X2 (l ++ ex) [] (hand_locals C 0 m k3) g0 co) (st X2 (l ++ ex) [] k3 g0 co2)) lt (locals_to ex l [] k3) in
       let a5 : To M' 1 1 (st X2 (l ++ ex) [] k3 g0 co2) (st X2 (l ++ ex) (values.I32 k ∷ []) (const (values.I32 C.index) (get C (offset_at C) (const nl k7))) g0 co2) = added_get M' C l size ex (kind_at C) (values.I32 k) kd in
       let a6 : To M' 1 1 (st X2 (l ++ ex) (values.I32 C.index ∷ values.I32 k ∷ []) (get C (offset_at C) (const nl k7)) g0 co2) (st X2 (l ++ ex) (values.I32 o ∷ values.I32 C.index ∷ values.I32 k ∷ []) (const nl k7) g0 co2) = added_get M' C l size ex (offset_at C) (values.I32 o) off in
-      let put_ : slice_set g0.globals (flag_of C.source) (values.I32 1) ≡ g.globals ++ values.I32 1 ∷ [] = put_last g.globals (flag_of C.source) (values.I32 b) (values.I32 1) fl in
-      let a7 : To M' 1 1 (st X2 (l ++ ex) (values.I32 1 ∷ []) (basic 0 (GlobalSet (flag_of C.source)) k9) g0 co3) (st X2 (l ++ ex) [] k9 g1 co3) = step_plain M' (GlobalSet (flag_of C.source)) (values.I32 1 ∷ []) [] (l ++ ex) g1 [] [] refl (rw (get_last g.globals (flag_of C.source) (values.I32 b) fl, put_) refl) refl in
+      let bytes = values.I64 (byte_count g.memory) ∷ [] in
+      let put_ : slice_set g0.globals (flag_of C.source) (values.I32 1) ≡ g.globals ++ values.I32 1 ∷ bytes = put_first g.globals (flag_of C.source) (values.I32 b) (values.I32 1) bytes fl in
+      let a7 : To M' 1 1 (st X2 (l ++ ex) (values.I32 1 ∷ []) (basic 0 (GlobalSet (flag_of C.source)) k9) g0 co3) (st X2 (l ++ ex) [] k9 g1 co3) = step_plain M' (GlobalSet (flag_of C.source)) (values.I32 1 ∷ []) [] (l ++ ex) g1 [] [] refl (rw (get_first g.globals (flag_of C.source) (values.I32 b) bytes fl, put_) refl) refl in
       weaken M' (seq M' a4 (seq M' a5 (seq M' (push_to M' (values.I32 C.index)) (seq M' a6 (seq M' (push_to M' nl) (seq M' (entry_to M' C.source sp k C.index o (length C.locals)) (seq M' (push_to M' (values.I32 1)) (seq M' a7 (zero_out {X = X2} C.result refl))))))))) (omega arith) (omega (arith, size))
 
   -- a frame hands over its values and returns with the flag up
@@ -309,7 +309,7 @@ module _ (M M' : Engine) (E : ℕ) (gl : List ValType) (W : Wrap) (sp : Speaks M
           let s3 = landed_out M' C sp_ M l lt exm L Ls e ss x m FR g 1 co o 0 s [] (all_ops (L ∷ Ls)) k a hm roomm (slice_get-put_same ex (offset_at C) I32 (values.I32 o) at) gt is refl (all_in C l (slice_set exm (kind_at C) (values.I32 0)) a (L ∷ Ls) (e ∷ ss) hk) low in
           rw (← tell-all (L ∷ Ls) co) (weaken M' (seq M' s1 (seq M' s2 s3)) (omega arith) (omega arith))
 
-  up_in : (Fs : List Frame) (ws : List Wit) (g : World) (co : List CollectorCall) (t : Config) (p q : ℕ) (r : Option ValType) (C : Ctx) (ex : List Value) (i cl : ℕ) (r' : Option ValType) (l : List Value) (Ls : List Label) (ss : List (List Place)) → FitsFrame M E gl r (frame i r' cl l Ls) (wit C ex ss) → FitsFrames M E gl W.result r' Fs ws → WorldFits M gl g → Up t p q r (frame i r' cl l Ls ∷ Fs) (wit C ex ss ∷ ws) g co → Up t p (q + E) r' Fs ws g (tell_frame 0 cl (frame i r' cl l Ls) co)
+  up_in : (Fs : List Frame) (ws : List Wit) (g : World) (co : List CollectorCall) (t : Config) (p q : ℕ) (r : Option ValType) (C : Ctx) (ex : List Value) (i cl : ℕ) (r' : Option ValType) (l : List Value) (Ls : List Label) (ss : List (List Place)) → FitsFrame M E gl (Some r) (frame i r' cl l Ls) (wit C ex ss) → FitsFrames M E gl W.result r' Fs ws → WorldFits M gl g → Up t p q r (frame i r' cl l Ls ∷ Fs) (wit C ex ss ∷ ws) g co → Up t p (q + E) r' Fs ws g (tell_frame 0 cl (frame i r' cl l Ls) co)
   up_in Fs ws g co t p q r C ex i cl r' l [] ss f fs gl_ u = absurd f.labels
   up_in Fs ws g co t p q r C ex i cl r' l (L ∷ Ls) [] f fs gl_ u = absurd f.labels
   up_in Fs ws g co t p q r C ex i cl r' l (L ∷ Ls) (e ∷ ss) f fs gl_ u =
@@ -320,8 +320,9 @@ module _ (M M' : Engine) (E : ℕ) (gl : List ValType) (W : Wrap) (sp : Speaks M
       let size = len_of l C.locals f.size in
       let n = length C.locals in
       let pl = grown_fits C r es ex f.room h.1 in
-      let ex1 = stored r (λ t. slot t (length es)) (zero_vs r) ex in
-      let len1 : types ex1 ≡ types ex = types-stored r (λ t. slot t (length es)) (zero_vs r) ex pl (exact_zero r) in
+      let pass = passes C L.nodes in
+      let ex1 = stored_unless pass r (λ t. slot t (length es)) (zero_vs r) ex in
+      let len1 : types ex1 ≡ types ex = types_unless pass r (λ t. slot t (length es)) (zero_vs r) ex pl (exact_zero r) in
       let k = rewrite C ls (grown r es) L.nodes in
       let k1 = test_flag C ls es cl k in
       let all_ = zero_vs r ++ L.operands in
@@ -330,17 +331,17 @@ module _ (M M' : Engine) (E : ℕ) (gl : List ValType) (W : Wrap) (sp : Speaks M
       let fl = flag_len C g gt in
       let at : slice_get (types ex1) (kind_at C) ≡ Some I32 = rw (len1 ∙ f.room) (added_kind C.slots) in
       let g1 = flagged M g (values.I32 1) in
-      let h1 = fits_stored C l ex r r (L ∷ Ls) (e ∷ ss) (λ t. slot t (length es)) (zero_vs r) (λ t. omega arith) h in
+      let h1 = fits_unless pass C l ex r r (L ∷ Ls) (e ∷ ss) (λ t. slot t (length es)) (zero_vs r) (λ t. omega arith) h in
       let room1 = len1 ∙ f.room in
       let sp_ = subst (Speaks M') (sym f.funcs) sp in
-      let go1 : Gets M' p q t (next (st X (l ++ ex) all_ (keep C (option_map Spilled r) es k1) g1 co)) = u in
-      let s1 : To M' 0 1 (st X (l ++ ex) all_ (keep C (option_map Spilled r) es k1) g1 co) (st X (l ++ ex1) all_ k1 g1 co) = kept_to M' C l size ex r es (zero_vs r) L.operands k1 pl (exact_zero r) in
+      let go1 : Gets M' p q t (next (st X (l ++ ex) all_ (keep pass C (option_map Spilled r) es k1) g1 co)) = u in
+      let s1 : To M' 0 1 (st X (l ++ ex) all_ (keep pass C (option_map Spilled r) es k1) g1 co) (st X (l ++ ex1) all_ k1 g1 co) = kept_unless M' C l size pass ex r es (zero_vs r) L.operands k1 pl (exact_zero r) in
       let s5 = tested_out C l f.size ex1 L Ls e ss X.frames g co cl all_ k r sp_ h1 room1 gt low in
       let all : Gets M' p (q + E) t (deliver M' (zero_vs C.result) X.frames g1 (collector_calls.Frame 0 C.index cl n ∷ tell_locals l (tell_labels (L ∷ Ls) co))) = weaken M' (seq M' go1 (seq M' s1 s5)) (omega arith) (omega (arith, f.small)) in
       renamed t p (q + E) C.result r' C.index i n (length l) cl 0 X.frames g (tell_locals l (tell_labels (L ∷ Ls) co)) f.result f.idx size all
 
   -- the same for a frame that called through the table
-  up_arm : (Fs : List Frame) (ws : List Wit) (g : World) (co : List CollectorCall) (t : Config) (p q : ℕ) (r : Option ValType) (C : Ctx) (ex : List Value) (others : UnderWay) (i cl : ℕ) (r' : Option ValType) (l : List Value) (Ls : List Label) (ss : List (List Place)) → FitsFrame M E gl r (frame i r' cl l Ls) (wit_under C ex ss (Some others)) → FitsFrames M E gl W.result r' Fs ws → WorldFits M gl g → Up t p q r (frame i r' cl l Ls ∷ Fs) (wit_under C ex ss (Some others) ∷ ws) g co → Up t p (q + E) r' Fs ws g (tell_frame 0 cl (frame i r' cl l Ls) co)
+  up_arm : (Fs : List Frame) (ws : List Wit) (g : World) (co : List CollectorCall) (t : Config) (p q : ℕ) (r : Option ValType) (C : Ctx) (ex : List Value) (others : UnderWay) (i cl : ℕ) (r' : Option ValType) (l : List Value) (Ls : List Label) (ss : List (List Place)) → FitsFrame M E gl (Some r) (frame i r' cl l Ls) (wit_under C ex ss (Some others)) → FitsFrames M E gl W.result r' Fs ws → WorldFits M gl g → Up t p q r (frame i r' cl l Ls ∷ Fs) (wit_under C ex ss (Some others) ∷ ws) g co → Up t p (q + E) r' Fs ws g (tell_frame 0 cl (frame i r' cl l Ls) co)
   unfolding int_binary
   up_arm Fs ws g co t p q r C ex others i cl r' l [] ss f fs gl_ u = absurd f.labels
   up_arm Fs ws g co t p q r C ex others i cl r' l (L ∷ Ls) [] f fs gl_ u = absurd f.labels
@@ -355,7 +356,7 @@ module _ (M M' : Engine) (E : ℕ) (gl : List ValType) (W : Wrap) (sp : Speaks M
       let ex1 = stored r (λ t. slot t (length es)) (zero_vs r) ex in
       let len1 : types ex1 ≡ types ex = types-stored r (λ t. slot t (length es)) (zero_vs r) ex pl (exact_zero r) in
       let k = rewrite C ls (grown r es) L.nodes in
-      let kr = drops (length others.taken) (reload C r es k) in
+      let kr = drops (length others.taken) (renew C.source (reload C r es k)) in
       let K = test_both C ls es cl others.others kr in
       let ops = others.taken ++ L.operands in
       let low : length es ≤ C.slots = omega (arith, grown_longer r es, room_height C (grown r es) L.nodes h.2) in
@@ -388,7 +389,7 @@ module _ (M M' : Engine) (E : ℕ) (gl : List ValType) (W : Wrap) (sp : Speaks M
       let all : Gets M' p (q + E) t (deliver M' (zero_vs C.result) X.frames g1 (collector_calls.Frame 0 C.index cl n ∷ tell_locals l (tell_labels (L ∷ Ls) co))) = weaken M' (seq M' go1 (seq M' s1 (seq M' s2 (seq M' s3 (seq M' s4 s5))))) (omega arith) (omega (arith, f.small)) in
       renamed t p (q + E) C.result r' C.index i n (length l) cl 0 X.frames g (tell_locals l (tell_labels (L ∷ Ls) co)) f.result f.idx size all
 
-  pub up_under : (Fs : List Frame) (ws : List Wit) (g : World) (co : List CollectorCall) (t : Config) (p q : ℕ) (r : Option ValType) (F : Frame) (C : Ctx) (ex : List Value) (ss : List (List Place)) (others : Option UnderWay) → FitsFrame M E gl r F (wit_under C ex ss others) → FitsFrames M E gl W.result F.result Fs ws → WorldFits M gl g → Up t p q r (F ∷ Fs) (wit_under C ex ss others ∷ ws) g co → Up t p (q + E) F.result Fs ws g (tell_frame 0 F.call F co)
+  pub up_under : (Fs : List Frame) (ws : List Wit) (g : World) (co : List CollectorCall) (t : Config) (p q : ℕ) (r : Option ValType) (F : Frame) (C : Ctx) (ex : List Value) (ss : List (List Place)) (others : Option UnderWay) → FitsFrame M E gl (Some r) F (wit_under C ex ss others) → FitsFrames M E gl W.result F.result Fs ws → WorldFits M gl g → Up t p q r (F ∷ Fs) (wit_under C ex ss others ∷ ws) g co → Up t p (q + E) F.result Fs ws g (tell_frame 0 F.call F co)
   up_under Fs ws g co t p q r F C ex ss None f fs gl_ u = up_in Fs ws g co t p q r C ex F.function F.call F.result F.locals F.labels ss f fs gl_ u
   up_under Fs ws g co t p q r F C ex ss (Some others) f fs gl_ u = up_arm Fs ws g co t p q r C ex others F.function F.call F.result F.locals F.labels ss f fs gl_ u
 

@@ -37,10 +37,10 @@ same_verdict (suc n) = refl
 
 pub guard_means : (C : Ctx) (i : Basic) (es : List Place) → can_trap i ≡ true → length es ≤ C.slots → IsGuard C i es (guard C i es)
 guard_means C i es trap room = record {
-  tells = λ M A l ex w co ops vs below size mf so h c fits under k.
+  tells = λ M A l ex w co ops vs below size mf tl so h c fits under k.
       let X = shell A in
       let none : es ++ [] ≡ es = append-nil es in
-      let to = (guard_to M C l size under X k w w co ex [] es ops vs below i refl mf so trap h c fits).0 in
+      let to = (guard_to M C l size under X k w w co ex [] es ops vs below i tl mf so trap h c fits).0 in
       let here = subst (λ (x : List Place). To M 1 21 (st X (l ++ ex) under (guard C i x k) w co) (st X (l ++ ex) (values.I32 (promises.verdict (promises.kind_of (effect i w l vs))) ∷ under) k w co)) none to in
       let number : promises.verdict (promises.kind_of (effect i w l vs)) ≡ verdict (kind_of (effect i w l vs)) = ap promises.verdict (same_kind (effect i w l vs)) ∙ same_verdict (kind_of (effect i w l vs)) in
       to_leads M 1 21 60 _ _ (omega arith) (subst (λ (n : ℕ). To M 1 21 (st X (l ++ ex) under (guard C i es k) w co) (st X (l ++ ex) (values.I32 n ∷ under) k w co)) number here);
@@ -53,10 +53,10 @@ guard_means C i es trap room = record {
 
 pub kind_means : (C : Ctx) (i : Basic) (es : List Place) → can_trap i ≡ true → length es ≤ C.slots → IsKind C i es (kind C i es)
 kind_means C i es trap room = record {
-  tells = λ M A l ex w co ops vs below size mf so h c fits j is under k.
+  tells = λ M A l ex w co ops vs below size mf tl so h c fits j is under k.
       let X = shell A in
       let none : es ++ [] ≡ es = append-nil es in
-      let to = (guard_to M C l size under X k w w co ex [] es ops vs below i refl mf so trap h c fits).1 j (same_kind (effect i w l vs) ∙ is) in
+      let to = (guard_to M C l size under X k w w co ex [] es ops vs below i tl mf so trap h c fits).1 j (same_kind (effect i w l vs) ∙ is) in
       to_leads M 1 5 60 _ _ (omega arith) (subst (λ (x : List Place). To M 1 5 (st X (l ++ ex) under (kind C i x k) w co) (st X (l ++ ex) (values.I32 (suc j) ∷ under) k w co)) none to);
   typed = λ after own h m locals returns labels before z k off t.
       let T = takes_of C [] i es [] after h in

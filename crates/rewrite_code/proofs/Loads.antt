@@ -1,5 +1,5 @@
 -- Operands that are loaded or handed over from the lowest on, and code that unwinds.
-use Rattle.std.proofs.Common.{◌≡◌, ℕ, zero, suc, ◌+◌, ◌-◌, ◌<◌, ◌≤◌, List, [], ◌∷◌, ◌++◌, length, map, reverse, take, drop, get_or, Bool, None, OnOk, Ok, Err, refl, sym, ap, subst, ◌∙◌, arith, take_all, Some}
+use Rattle.std.proofs.Common.{◌≡◌, ℕ, zero, suc, ◌+◌, ◌-◌, ◌<◌, ◌≤◌, List, [], ◌∷◌, ◌++◌, length, map, reverse, take, drop, get_or, Bool, true, false, None, OnOk, Ok, Err, refl, sym, ap, subst, ◌∙◌, arith, take_all, Some}
 use Rattle.std.proofs.lemmas.List.{length-map, length-reverse, reverse-append, map-append, length-take-le, length-drop, take-append-drop}
 use Rattle.std.proofs.Math.Seq.{take-suc, drop-cons}
 use Rattle.std.specs.declared.result.Result.{Result}
@@ -7,7 +7,7 @@ use Rattle.wasm_syntax.specs.declared.value.ValType.{ValType}
 use Rattle.wasm_syntax.specs.declared.instruction.Basic.TheVariants.{Drop, LocalGet, LocalTee}
 use Rattle.wasm_syntax.specs.Tree.{Br, BrIf, Nodes, stop, basic, jump, choose}
 use Rattle.rewrite_bodies.specs.calls.Slots.{Place, Ctx, less, place_type, slot, kind_at, offset_at}
-use Rattle.rewrite_bodies.specs.calls.Pieces.{set, const, i32, fetch, load, spill_one, spill, drops}
+use Rattle.rewrite_bodies.specs.calls.Pieces.{set, const, i32, fetch, load, keep_slot, spill_one, spill, drops}
 use Rattle.rewrite_bodies.specs.calls.Rewrite.{hand, hand_top, hand_value, hand_locals, to_exit, unwind, unwind_kind, checked, get_flag}
 use Rattle.rewrite_code.specs.calls.Writing.{Written, Behind, goes, Emits, EmitsLast, Opens, Closes}
 use Rattle.rewrite_code.proofs.Pieces.{emits_then, emits_last, emits_stop, emits_within}
@@ -153,8 +153,12 @@ pub own_and_slot : (C : Ctx) (t : ValType) (l height y : ℕ) {a b c : Written} 
     Emits (λ k. basic 0 (LocalGet l) (set C (slot t height) k)) a c
 own_and_slot C t l height y d p q = emits_same (λ k. ap (λ y. basic 0 (LocalGet l) (set C y k)) (sym d)) (emits_then p q)
 
-pub kept_in : (C : Ctx) (t : ValType) (height x : ℕ) {a b : Written} → x ≡ slot t height → Emits (basic 0 (LocalTee (length C.locals + x))) a b → Emits (basic 0 (LocalTee (length C.locals + slot t height))) a b
-kept_in C t height x {a} {b} e p = subst (λ y. Emits (basic 0 (LocalTee (length C.locals + y))) a b) e p
+-- a result that is kept, or not
+pub kept_in : (C : Ctx) (q : Bool) (t : ValType) (height x : ℕ) (es : List Place) {a b : Written} → q ≡ false → x ≡ slot t height → length es ≡ height → Emits (basic 0 (LocalTee (length C.locals + x))) a b → Emits (keep_slot q C t es) a b
+kept_in C q t height x es {a} {b} is e d p = subst (λ q. Emits (keep_slot q C t es) a b) (sym is) (subst (λ y. Emits (basic 0 (LocalTee (length C.locals + y))) a b) (e ∙ ap (slot t) (sym d)) p)
+
+pub passed_on : (C : Ctx) (q : Bool) (t : ValType) (es : List Place) {a : Written} → q ≡ true → Emits (keep_slot q C t es) a a
+passed_on C q t es {a} is = subst (λ q. Emits (keep_slot q C t es) a a) (sym is) (record { emitted = λ k behind. refl })
 
 -- ---- copies that go to their slots
 

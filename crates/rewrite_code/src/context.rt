@@ -8,6 +8,7 @@ ghost use Rattle.rewrite_bodies.specs.Numbering.{flag_of};
 ghost use Rattle.rewrite_bodies.specs.calls.Slots.{slot, kind_at, offset_at};
 ghost use Rattle.rewrite_bodies.specs.calls.Pieces.{get, set};
 ghost use Rattle.rewrite_bodies.specs.calls.Rewrite.{hand_value};
+ghost use Rattle.rewrite_bodies.specs.calls.Guards.{get_length, renew, set_length};
 ghost use Rattle.rewrite_code.specs.calls.Writing.{Emits};
 ghost use Rattle.rewrite_bodies.specs.calls.Landings.{most_landings};
 ghost use Rattle.rewrite_bodies.specs.calls.Facts.{among};
@@ -16,6 +17,7 @@ ghost use Rattle.rewrite_code.specs.calls.Contexts.{context, FewLocals};
 
 use crate::CodeWriter;
 use crate::landing::{Landing, Landings};
+use crate::measuring::{renew, set_length};
 use crate::offsets::Offsets;
 use crate::place::slot;
 use causes::NoMemory;
@@ -187,6 +189,27 @@ impl<'m, 'a> FunctionContext<'m, 'a> {
             writer.new) }
     {
         writer.basic(Basic::GlobalGet(self.map.flag()))
+    }
+
+    /// Reads the length of the memory in bytes, as an i64.
+    pub fn get_length(&self, writer: &mut CodeWriter) -> Result<(), NoMemory>
+        ensures { OnOk result (Emits (get_length self.now.source) writer.old writer.new) }
+    {
+        writer.basic(Basic::GlobalGet(self.map.length()))
+    }
+
+    /// Sets it anew, behind an instruction that changes it.
+    pub fn set_length(&self, writer: &mut CodeWriter) -> Result<(), NoMemory>
+        ensures { OnOk result (Emits (set_length self.now.source) writer.old writer.new) }
+    {
+        set_length(self.map, writer)
+    }
+
+    /// Sets it anew where there is a memory, behind the call of an import.
+    pub fn renew(&self, writer: &mut CodeWriter) -> Result<(), NoMemory>
+        ensures { OnOk result (Emits (renew self.now.source) writer.old writer.new) }
+    {
+        renew(self.map, writer)
     }
 
     /// Hands the value on the stack over.

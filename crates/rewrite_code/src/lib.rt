@@ -6,6 +6,7 @@ mod context;
 mod handing;
 mod landing;
 pub mod laws;
+mod measuring;
 mod moves;
 mod offsets;
 mod place;
@@ -15,6 +16,7 @@ mod writer;
 
 pub use context::FunctionContext;
 pub use landing::{Landing, Landings, part_of};
+pub use measuring::renew;
 pub use moves::drops;
 pub use offsets::Offsets;
 pub use place::{OperandPlace, OperandPlaces, slot};

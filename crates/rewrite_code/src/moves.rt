@@ -2,10 +2,9 @@
 
 ghost use Rattle.std.specs.Prelude.{◌≡◌, ◌+◌, ◌≤◌, List, length, option_map, OnOk};
 ghost use Rattle.wasm_syntax.specs.declared.instruction.Basic.TheVariants.{LocalGet as LocalGetOf};
-ghost use Rattle.wasm_syntax.specs.declared.instruction.Basic.TheVariants.{LocalTee as LocalTeeOf};
 ghost use Rattle.wasm_syntax.specs.Tree.{basic};
 ghost use Rattle.rewrite_bodies.specs.calls.Slots.{Place as PlaceOf, Spilled as SpilledOf, slot, less};
-ghost use Rattle.rewrite_bodies.specs.calls.Pieces.{set, fetch, load, keep, store, reload, spill_one, spill, drops};
+ghost use Rattle.rewrite_bodies.specs.calls.Pieces.{set, fetch, load, keep_slot, keep, store, reload, spill_one, spill, drops};
 ghost use Rattle.rewrite_code.specs.calls.Writing.{Emits};
 ghost use Rattle.rewrite_code.specs.calls.Places.{place, these};
 
@@ -86,34 +85,41 @@ impl<'m, 'a> FunctionContext<'m, 'a> {
         }
     }
 
-    // A result on the stack is kept in its slot besides.
+    // A result on the stack is kept in its slot besides, unless the next instruction takes it.
     fn keep_in_slot(
         &self,
         writer: &mut CodeWriter,
+        passing: bool,
         t: ValType,
         height: usize,
     ) -> Result<(), NoMemory>
         requires { height ≤ self.now.slots }
-        ensures { OnOk result (Emits (basic 0 (LocalTeeOf (length self.now.locals + slot t height)))
-            writer.old writer.new) }
+        ensures { (places : List PlaceOf) → length places ≡ height
+            → OnOk result (Emits (keep_slot passing self.now t places) writer.old writer.new) }
     {
-        self.tee(writer, self.slot_at(t, height))
+        if passing {
+            Ok(())
+        } else {
+            self.tee(writer, self.slot_at(t, height))
+        }
     }
 
-    /// A result on the stack is kept, over so many operands, where its value is in no other place.
+    /// A result on the stack is kept, over so many operands, where its value is in no other place,
+    /// unless the next instruction takes it.
     pub fn keep(
         &self,
         writer: &mut CodeWriter,
+        passing: bool,
         kept: Option<OperandPlace>,
         height: usize,
     ) -> Result<(), NoMemory>
         requires { height ≤ self.now.slots }
         ensures { (places : List PlaceOf) → length places ≡ height
-            → OnOk result (Emits (keep self.now (option_map place kept) places) writer.old
-            writer.new) }
+            → OnOk result (Emits (keep passing self.now (option_map place kept) places)
+            writer.old writer.new) }
     {
         match kept {
-            Some(OperandPlace::Spilled(t)) => self.keep_in_slot(writer, t, height),
+            Some(OperandPlace::Spilled(t)) => self.keep_in_slot(writer, passing, t, height),
             Some(OperandPlace::Known(_)) => Ok(()),
             Some(OperandPlace::Copied(_, _)) => Ok(()),
             None => Ok(()),
@@ -124,16 +130,17 @@ impl<'m, 'a> FunctionContext<'m, 'a> {
     pub fn keep_result(
         &self,
         writer: &mut CodeWriter,
+        passing: bool,
         gives: Option<ValType>,
         height: usize,
     ) -> Result<(), NoMemory>
         requires { height ≤ self.now.slots }
         ensures { (places : List PlaceOf) → length places ≡ height
-            → OnOk result (Emits (keep self.now (option_map SpilledOf gives) places) writer.old
-            writer.new) }
+            → OnOk result (Emits (keep passing self.now (option_map SpilledOf gives) places)
+            writer.old writer.new) }
     {
         match gives {
-            Some(t) => self.keep_in_slot(writer, t, height),
+            Some(t) => self.keep_in_slot(writer, passing, t, height),
             None => Ok(()),
         }
     }

@@ -2,6 +2,7 @@
 use Rattle.rewrite_bodies.specs.calls.Landings.{number_of, number_in, landing_of, landing_behind, with_landings, part_of}
 use Rattle.std.proofs.Common.{◌≡◌, ℕ, zero, suc, ◌+◌, List, [], ◌∷◌, length, Option, Some, None, Bool, true, false, nat_lt, if◌then◌else◌, ◌==◌, refl, ap, slice_get, option_map, ◌/◌}
 use Rattle.wasm_syntax.specs.declared.value.ValType.{ValType}
+use Rattle.wasm_syntax.specs.declared.parts.Limits.{Limits}
 use Rattle.wasm_syntax.specs.declared.instruction.Basic.{Basic}
 use Rattle.wasm_syntax.specs.declared.parts.FuncType.{FuncType}
 use Rattle.wasm_syntax.specs.declared.module.ModuleParts.{ModuleParts as Module}
@@ -20,15 +21,20 @@ use Rattle.wasm_syntax.specs.declared.value.ValType.TheVariants.{I32, I64}
 use Rattle.wasm_syntax.specs.Sizes.{parameter_count}
 use Rattle.rewrite_bodies.specs.Numbering.{import_count, mapped, frame_import, global_types, doubles}
 use Rattle.rewrite_bodies.specs.calls.Slots.{Place, place_type, Ctx, slot, kind_at, offset_at, less, grown, under, result_place, after_plain, Spilled, Known, Copied, Landing, local_written}
-use Rattle.rewrite_bodies.specs.calls.Pieces.{get, set, const, i32, call, if_any, fetch, load, keep, store, reload, spill_one, spill, drops}
-use Rattle.rewrite_bodies.specs.calls.Guards.{least, minus_one, guard_zero, guard_signed, past_end, out_test, guard_memory, range_test, guard, can_trap, kind, helper}
-use Rattle.rewrite_bodies.specs.calls.Rewrite.{hand_value, hand, hand_top, to_exit, unwind, test_flag, test_both, unwind_kind, tested, guarded, free, plain, with_result, after_call, after_direct, call_code, helper_of, past_shown, indirect_code, control, rewrite, hand_locals, zero_result, raise_flag, exit_code, body, checked, get_flag, hand_carried, landing_code, nested, laid, free_at}
+use Rattle.rewrite_bodies.specs.calls.Pieces.{get, set, const, i32, call, if_any, fetch, load, keep_slot, keep, store, reload, spill_one, spill, drops}
+use Rattle.rewrite_bodies.specs.calls.Guards.{least, minus_one, guard_zero, guard_signed, past_end, out_test, guard_memory, range_test, guard, can_trap, kind, helper, renewed, renew}
+use Rattle.rewrite_bodies.specs.calls.Rewrite.{hand_value, hand, hand_top, to_exit, unwind, test_flag, test_both, unwind_kind, tested, guarded, passes, free, plain, with_result, after_call, after_direct, call_code, helper_of, past_shown, indirect_code, control, rewrite, hand_locals, zero_result, raise_flag, exit_code, body, checked, get_flag, hand_carried, landing_code, nested, laid, free_at, grows, lengthened}
 use Rattle.rewrite_modules.specs.calls.Wrappers.{get_all, tell_globals, after_wrapped, wrapper}
 use Rattle.rewrite_modules.specs.calls.FlatCode.{op}
 use Rattle.rewrite_bodies.proofs.Risks.{risk_of}
 use Rattle.wasm_syntax.specs.calls.Classes.{Divider, by_div_s, by_div_u, by_rem_s, by_rem_u, Risky, risky_binary, risky_load, risky_store, risky_copy, risky_fill}
 use Rattle.rewrite_bodies.specs.calls.Facts.{needs}
 use Rattle.rewrite_bodies.proofs.FactLaws.{needs_trap}
+
+-- the length of the memory is set
+tree_renewed : (ls : List Limits) (src : Module) (k : Nodes) → IsTree k → IsTree (renewed ls src k)
+tree_renewed [] src k tk = tk
+tree_renewed (l ∷ ls) src k tk = tk
 
 module _ (C : Ctx) where
   tree_fetch : (e : Place) (h : ℕ) (k : Nodes) → IsTree k → IsTree (fetch C e h k)
@@ -45,11 +51,15 @@ module _ (C : Ctx) where
   tree_store None es k tk = tk
   tree_store (Some t) es k tk = tk
 
-  tree_keep : (q : Option Place) (es : List Place) (k : Nodes) → IsTree k → IsTree (keep C q es k)
-  tree_keep None es k tk = tk
-  tree_keep (Some (Spilled t)) es k tk = tk
-  tree_keep (Some (Known v)) es k tk = tk
-  tree_keep (Some (Copied t x)) es k tk = tk
+  tree_keep_slot : (pass : Bool) (t : ValType) (es : List Place) (k : Nodes) → IsTree k → IsTree (keep_slot pass C t es k)
+  tree_keep_slot true t es k tk = tk
+  tree_keep_slot false t es k tk = tk
+
+  tree_keep : (pass : Bool) (q : Option Place) (es : List Place) (k : Nodes) → IsTree k → IsTree (keep pass C q es k)
+  tree_keep pass None es k tk = tk
+  tree_keep pass (Some (Spilled t)) es k tk = tree_keep_slot pass t es k tk
+  tree_keep pass (Some (Known v)) es k tk = tk
+  tree_keep pass (Some (Copied t x)) es k tk = tk
 
   tree_reload : (t : Option ValType) (es : List Place) (k : Nodes) → IsTree k → IsTree (reload C t es k)
   tree_reload None es k tk = tk
@@ -101,11 +111,11 @@ module _ (C : Ctx) where
       tree_fetch a h (const (least t) (basic 0 (Compare t Eq) (fetch C b (suc h) k3))) (tree_fetch b (suc h) k3 (tree_zero t b (suc h) k5 tk))
 
   tree_memory : (a : Place) (h n : ℕ) (k : Nodes) → IsTree k → IsTree (guard_memory C a h n k)
-  tree_memory a h n k tk = tree_fetch a h (out_test n k) tk
+  tree_memory a h n k tk = tree_fetch a h (out_test C.source n k) tk
 
   tree_range : (a : Place) (h : ℕ) (n : Place) (hn : ℕ) (k : Nodes) → IsTree k → IsTree (range_test C a h n hn k)
   tree_range a h n hn k tk =
-      let k2 = basic 0 (Convert ExtendU) (basic 0 (Binary I64 Add) (past_end k)) in
+      let k2 = basic 0 (Convert ExtendU) (basic 0 (Binary I64 Add) (past_end C.source k)) in
       tree_fetch a h (basic 0 (Convert ExtendU) (fetch C n hn k2)) (tree_fetch n hn k2 tk)
 
   tree_kind_division : (op : BinaryOp) → Divider op → (t : ValType) (es : List Place) (k : Nodes) → IsTree k → IsTree (kind C (Binary t op) es k)
@@ -170,12 +180,17 @@ module _ (C : Ctx) where
   tree_free None es k tk = tk
   tree_free (Some x) es k tk = tree_spill (λ y. x == y) es k tk
 
-  tree_plain : (ls : ℕ) (es : List Place) (o : ℕ) (i : Basic) (go : List Place → Nodes) → Goes go → IsTree (plain C ls es o i go)
-  tree_plain ls es o i go h =
+  tree_lengthened : (q : Bool) (k : Nodes) → IsTree k → IsTree (lengthened q C k)
+  tree_lengthened false k tk = tk
+  tree_lengthened true k tk = tk
+
+  tree_plain : (ls : ℕ) (es : List Place) (o : ℕ) (i : Basic) (pass : Bool) (go : List Place → Nodes) → Goes go → IsTree (plain C ls es o i pass go)
+  tree_plain ls es o i pass go h =
       let left = less (takes i) es in
       let k1 = go (after_plain C es i) in
-      let k2 = basic 0 i (keep C (result_place C es i) left k1) in
-      tree_guarded (needs C o i) ls es o i (free C i left k2) (needs_trap C o i) (tree_free (local_written i) left k2 (tree_keep (result_place C es i) left k1 (h (after_plain C es i))))
+      let kept = keep pass C (result_place C es i) left k1 in
+      let k2 = basic 0 i (lengthened (grows i) C kept) in
+      tree_guarded (needs C o i) ls es o i (free C i left k2) (needs_trap C o i) (tree_free (local_written i) left k2 (tree_lengthened (grows i) kept (tree_keep pass (result_place C es i) left k1 (h (after_plain C es i)))))
 
   -- ---- control
 
@@ -187,19 +202,19 @@ module _ (C : Ctx) where
   tree_both : (ls : ℕ) (es : List Place) (o : ℕ) (others k : Nodes) → IsTree others → IsTree k → IsTree (test_both C ls es o others k)
   tree_both ls es o others k to tk = (tree_hand es (get C (kind_at C) (if_any others (to_exit C ls))) (to, refl, tt, tt), refl, tt, tk)
 
-  tree_result : (r : Option ValType) (es : List Place) (go : List Place → Nodes) → Goes go → IsTree (with_result C r es go)
-  tree_result r es go h = tree_keep (option_map Spilled r) es (go (grown r es)) (h (grown r es))
+  tree_result : (r : Option ValType) (es : List Place) (pass : Bool) (go : List Place → Nodes) → Goes go → IsTree (with_result C r es pass go)
+  tree_result r es pass go h = tree_keep pass (option_map Spilled r) es (go (grown r es)) (h (grown r es))
 
-  tree_after : (ls : ℕ) (r : Option ValType) (es : List Place) (o : ℕ) (go : List Place → Nodes) → Goes go → IsTree (after_call C ls r es o go)
-  tree_after ls r es o go h = tree_result r es (λ es'. test_flag C ls es o (go es')) (λ es'. tree_flag ls es o (go es') (h es'))
+  tree_after : (ls : ℕ) (r : Option ValType) (es : List Place) (o : ℕ) (pass : Bool) (go : List Place → Nodes) → Goes go → IsTree (after_call C ls r es o pass go)
+  tree_after ls r es o pass go h = tree_result r es pass (λ es'. test_flag C ls es o (go es')) (λ es'. tree_flag ls es o (go es') (h es'))
 
-  tree_direct : (q : Bool) (ls : ℕ) (r : Option ValType) (es : List Place) (o : ℕ) (go : List Place → Nodes) → Goes go → IsTree (after_direct q C ls r es o go)
-  tree_direct true ls r es o go h = tree_result r es go h
-  tree_direct false ls r es o go h = tree_after ls r es o go h
+  tree_direct : (q : Bool) (ls : ℕ) (r : Option ValType) (es : List Place) (o : ℕ) (pass : Bool) (go : List Place → Nodes) → Goes go → IsTree (after_direct q C ls r es o pass go)
+  tree_direct true ls r es o pass go h = tree_renewed C.source.memories C.source (with_result C r es pass go) (tree_result r es pass go h)
+  tree_direct false ls r es o pass go h = tree_after ls r es o pass go h
 
-  tree_call : (q : Option FuncType) (ls : ℕ) (es : List Place) (o f : ℕ) (go : List Place → Nodes) → Goes go → IsTree (call_code C ls es o f q go)
-  tree_call None ls es o f go h = tt
-  tree_call (Some type) ls es o f go h = tree_direct (nat_lt f (import_count C.source)) ls (result_of type) (less (length type.params) es) o go h
+  tree_call : (q : Option FuncType) (ls : ℕ) (es : List Place) (o f : ℕ) (pass : Bool) (go : List Place → Nodes) → Goes go → IsTree (call_code C ls es o f q pass go)
+  tree_call None ls es o f pass go h = tt
+  tree_call (Some type) ls es o f pass go h = tree_direct (nat_lt f (import_count C.source)) ls (result_of type) (less (length type.params) es) o pass go h
 
   tree_past : (q : Bool) (k : Nodes) → IsTree k → IsTree (past_shown q C k)
   tree_past false k h = h
@@ -213,22 +228,23 @@ module _ (C : Ctx) where
       let left = less n es in
       let r = result_of type in
       let others = hand_top C (suc n) (i ∷ es) stop in
-      let back = reload C r left (go (grown r left)) in
+      let loaded = reload C r left (go (grown r left)) in
+      let back = renew C.source loaded in
       let next_ = drops (suc n) back in
       let call_ = jump 0 (CallIndirect t) (store C r left stop) in
       let inner = past_shown (doubles C.source) C call_ in
       let k1 = set C (kind_at C) (get C (kind_at C) (basic 0 (Eqz I32) (if_any (load C (suc n) (i ∷ es) inner) (test_both C ls left o others next_)))) in
-      let tree_back = tree_drops (suc n) back (tree_reload r left (go (grown r left)) (h (grown r left))) in
+      let tree_back = tree_drops (suc n) back (tree_renewed C.source.memories C.source loaded (tree_reload r left (go (grown r left)) (h (grown r left)))) in
       tree_fetch i (length es) (call (helper_of C t) k1) (tree_load (suc n) (i ∷ es) inner (tree_past (doubles C.source) call_ (tree_store r left stop tt)), refl, tt, tree_both ls left o others next_ (tree_hand_top (suc n) (i ∷ es) stop tt) tree_back)
 
-  tree_control : (j : Jump) (ls : ℕ) (es : List Place) (o : ℕ) (go : List Place → Nodes) → Goes go → IsTree (control C ls es o j go)
-  tree_control Unreachable ls es o go h = tree_tested ls es o (const (i32 1)) (jump 0 Unreachable stop) (λ arm w. w) tt
-  tree_control (Br l) ls es o go h = tt
-  tree_control (BrIf l) ls es o go h = h (less 1 es)
-  tree_control (BrTable ts d) ls es o go h = tt
-  tree_control Return ls es o go h = tt
-  tree_control (Call f) ls es o go h = tree_call (type_at C.source f) ls es o f go h
-  tree_control (CallIndirect t) ls es o go h = tree_indirect (slice_get C.source.types t) ls es o t go h
+  tree_control : (j : Jump) (ls : ℕ) (es : List Place) (o : ℕ) (pass : Bool) (go : List Place → Nodes) → Goes go → IsTree (control C ls es o j pass go)
+  tree_control Unreachable ls es o pass go h = tree_tested ls es o (const (i32 1)) (jump 0 Unreachable stop) (λ arm w. w) tt
+  tree_control (Br l) ls es o pass go h = tt
+  tree_control (BrIf l) ls es o pass go h = h (less 1 es)
+  tree_control (BrTable ts d) ls es o pass go h = tt
+  tree_control Return ls es o pass go h = tt
+  tree_control (Call f) ls es o pass go h = tree_call (type_at C.source f) ls es o f pass go h
+  tree_control (CallIndirect t) ls es o pass go h = tree_indirect (slice_get C.source.types t) ls es o t go h
 
   -- ---- the nodes
 
@@ -238,19 +254,19 @@ module _ (C : Ctx) where
 
   pub tree_rewrite : (nodes : Nodes) (ls : ℕ) (es : List Place) → IsTree nodes → IsTree (rewrite C ls es nodes)
   tree_rewrite stop ls es it = tt
-  tree_rewrite (basic o i rest) ls es it = tree_plain ls es o i (λ es'. rewrite C ls es' rest) (λ es'. tree_rewrite rest ls es' it)
-  tree_rewrite (jump o j rest) ls es it = tree_control j ls es o (λ es'. rewrite C ls es' rest) (λ es'. tree_rewrite rest ls es' it)
+  tree_rewrite (basic o i rest) ls es it = tree_plain ls es o i (passes C rest) (λ es'. rewrite C ls es' rest) (λ es'. tree_rewrite rest ls es' it)
+  tree_rewrite (jump o j rest) ls es it = tree_control j ls es o (passes C rest) (λ es'. rewrite C ls es' rest) (λ es'. tree_rewrite rest ls es' it)
   tree_rewrite (block o t inner en rest) ls es it =
-      tree_spill (λ x. true) es (block 0 t (rewrite C (suc ls) (under es) inner) 0 (with_result C t (under es) (λ es'. rewrite C ls es' rest)))
-      (tree_rewrite inner (suc ls) (under es) it.0, tree_result t (under es) (λ es'. rewrite C ls es' rest) (λ es'. tree_rewrite rest ls es' it.1))
+      tree_spill (λ x. true) es (block 0 t (rewrite C (suc ls) (under es) inner) 0 (with_result C t (under es) (passes C rest) (λ es'. rewrite C ls es' rest)))
+      (tree_rewrite inner (suc ls) (under es) it.0, tree_result t (under es) (passes C rest) (λ es'. rewrite C ls es' rest) (λ es'. tree_rewrite rest ls es' it.1))
   tree_rewrite (loop o t inner en rest) ls es it =
-      tree_spill (λ x. true) es (loop 0 t (rewrite C (suc ls) (under es) inner) 0 (with_result C t (under es) (λ es'. rewrite C ls es' rest)))
-      (tree_rewrite inner (suc ls) (under es) it.0, tree_result t (under es) (λ es'. rewrite C ls es' rest) (λ es'. tree_rewrite rest ls es' it.1))
+      tree_spill (λ x. true) es (loop 0 t (rewrite C (suc ls) (under es) inner) 0 (with_result C t (under es) (passes C rest) (λ es'. rewrite C ls es' rest)))
+      (tree_rewrite inner (suc ls) (under es) it.0, tree_result t (under es) (passes C rest) (λ es'. rewrite C ls es' rest) (λ es'. tree_rewrite rest ls es' it.1))
   tree_rewrite (choose o t a ea b en rest) ls es it =
       let left = under (less 1 es) in
       tree_spill (λ x. true) (less 1 es)
-      (choose 0 t (rewrite C (suc ls) left a) (option_map (λ at. 0) ea) (rewrite C (suc ls) left b) 0 (with_result C t left (λ es'. rewrite C ls es' rest)))
-      (tree_rewrite a (suc ls) left it.0, no_else ea (suc ls) left b it.1, tree_rewrite b (suc ls) left it.2, tree_result t left (λ es'. rewrite C ls es' rest) (λ es'. tree_rewrite rest ls es' it.3))
+      (choose 0 t (rewrite C (suc ls) left a) (option_map (λ at. 0) ea) (rewrite C (suc ls) left b) 0 (with_result C t left (passes C rest) (λ es'. rewrite C ls es' rest)))
+      (tree_rewrite a (suc ls) left it.0, no_else ea (suc ls) left b it.1, tree_rewrite b (suc ls) left it.2, tree_result t left (passes C rest) (λ es'. rewrite C ls es' rest) (λ es'. tree_rewrite rest ls es' it.3))
 
   -- ---- the exit
 
@@ -295,7 +311,10 @@ tree_globals m x [] k tk = tk
 tree_globals m x (t ∷ ts) k tk = tree_globals m (suc x) ts k tk
 
 pub tree_wrapper : (m : Module) (f : ℕ) → IsTree (wrapper m f)
-tree_wrapper m f = tree_get 0 (parameter_count (type_at m f)) (call (mapped m f) (after_wrapped m)) (tree_globals m 0 (global_types m) _ tt, refl, tt, tt)
+tree_wrapper m f =
+    let n = parameter_count (type_at m f) in
+    let k = call (mapped m f) (after_wrapped m) in
+    tree_renewed m.memories m (get_all 0 n k) (tree_get 0 n k (tree_globals m 0 (global_types m) _ tt, refl, tt, tt))
 
 pub tree_helper : (m : Module) (t : ℕ) → IsTree (helper m t)
 tree_helper m t = ((((tt, tt), tt), tt), tt)

@@ -3,6 +3,7 @@ use Rattle.rewrite_bodies.proofs.Laid.{few_landings}
 use Rattle.rewrite_bodies.specs.calls.Landings.{number_of, number_in, landing_of, landing_behind, with_landings, landed, part_of}
 use Rattle.std.proofs.Common.{◌≡◌, ℕ, zero, suc, ◌+◌, List, [], ◌∷◌, length, Option, Some, None, Bool, true, false, nat_lt, if◌then◌else◌, ◌==◌, refl, ap, slice_get, option_map, ◌/◌, ◌-◌, ◌≤◌, max, map, ◌∙◌, arith, subst}
 use Rattle.wasm_syntax.specs.declared.value.ValType.{ValType}
+use Rattle.wasm_syntax.specs.declared.parts.Limits.{Limits}
 use Rattle.wasm_syntax.specs.declared.instruction.Basic.{Basic}
 use Rattle.wasm_syntax.specs.declared.parts.FuncType.{FuncType}
 use Rattle.wasm_syntax.specs.declared.module.ModuleParts.{ModuleParts as Module}
@@ -20,9 +21,9 @@ use Rattle.wasm_syntax.specs.declared.instruction.Basic.TheVariants.{Select, Loc
 use Rattle.wasm_syntax.specs.declared.value.ValType.TheVariants.{I32, I64}
 use Rattle.rewrite_bodies.specs.Numbering.{import_count, mapped, frame_import, global_types, doubles}
 use Rattle.rewrite_bodies.specs.calls.Slots.{Place, place_type, Ctx, slot, kind_at, offset_at, less, grown, under, result_place, after_plain, Spilled, Known, Copied, Landing, local_written}
-use Rattle.rewrite_bodies.specs.calls.Pieces.{get, set, const, i32, call, if_any, fetch, load, keep, store, reload, spill_one, spill, drops}
-use Rattle.rewrite_bodies.specs.calls.Guards.{least, minus_one, guard_zero, guard_signed, past_end, out_test, guard_memory, range_test, guard, can_trap, kind, helper}
-use Rattle.rewrite_bodies.specs.calls.Rewrite.{hand_value, hand, hand_top, to_exit, unwind, test_flag, test_both, unwind_kind, tested, guarded, free, plain, with_result, after_call, after_direct, call_code, helper_of, past_shown, indirect_code, control, rewrite, hand_locals, zero_result, raise_flag, exit_code, body, checked, get_flag, hand_carried, landing_code, nested, laid, free_at}
+use Rattle.rewrite_bodies.specs.calls.Pieces.{get, set, const, i32, call, if_any, fetch, load, keep_slot, keep, store, reload, spill_one, spill, drops}
+use Rattle.rewrite_bodies.specs.calls.Guards.{least, minus_one, guard_zero, guard_signed, past_end, out_test, guard_memory, range_test, guard, can_trap, kind, helper, renewed, renew}
+use Rattle.rewrite_bodies.specs.calls.Rewrite.{hand_value, hand, hand_top, to_exit, unwind, test_flag, test_both, unwind_kind, tested, guarded, passes, free, plain, with_result, after_call, after_direct, call_code, helper_of, past_shown, indirect_code, control, rewrite, hand_locals, zero_result, raise_flag, exit_code, body, checked, get_flag, hand_carried, landing_code, nested, laid, free_at, grows, lengthened}
 use Rattle.rewrite_modules.specs.calls.Wrappers.{get_all, tell_globals, after_wrapped, wrapper}
 use Rattle.wasm_syntax.specs.declared.instruction.Instr.{Instr}
 use Rattle.wasm_syntax.specs.declared.instruction.Instr.TheVariants as instrs
@@ -170,6 +171,11 @@ low_nesting groups nodes d h =
 
 -- ---- rewritten code
 
+-- the length of the memory is set
+low_renewed : (lv : ℕ) (ls : List Limits) (src : Module) (k : Nodes) → Low lv k → Low lv (renewed ls src k)
+low_renewed lv [] src k tk = tk
+low_renewed lv (l ∷ ls) src k tk = tk
+
 module _ (C : Ctx) where
   low_fetch : (lv : ℕ) (e : Place) (h : ℕ) (k : Nodes) → Low lv k → Low lv (fetch C e h k)
   low_fetch lv (Spilled t) h k tk = tk
@@ -185,11 +191,15 @@ module _ (C : Ctx) where
   low_store lv None es k tk = tk
   low_store lv (Some t) es k tk = tk
 
-  low_keep : (lv : ℕ) (q : Option Place) (es : List Place) (k : Nodes) → Low lv k → Low lv (keep C q es k)
-  low_keep lv None es k tk = tk
-  low_keep lv (Some (Spilled t)) es k tk = tk
-  low_keep lv (Some (Known v)) es k tk = tk
-  low_keep lv (Some (Copied t x)) es k tk = tk
+  low_keep_slot : (lv : ℕ) (pass : Bool) (t : ValType) (es : List Place) (k : Nodes) → Low lv k → Low lv (keep_slot pass C t es k)
+  low_keep_slot lv true t es k tk = tk
+  low_keep_slot lv false t es k tk = tk
+
+  low_keep : (lv : ℕ) (pass : Bool) (q : Option Place) (es : List Place) (k : Nodes) → Low lv k → Low lv (keep pass C q es k)
+  low_keep lv pass None es k tk = tk
+  low_keep lv pass (Some (Spilled t)) es k tk = low_keep_slot lv pass t es k tk
+  low_keep lv pass (Some (Known v)) es k tk = tk
+  low_keep lv pass (Some (Copied t x)) es k tk = tk
 
   low_reload : (lv : ℕ) (t : Option ValType) (es : List Place) (k : Nodes) → Low lv k → Low lv (reload C t es k)
   low_reload lv None es k tk = tk
@@ -241,11 +251,11 @@ module _ (C : Ctx) where
       low_fetch lv a h (const (least t) (basic 0 (Compare t Eq) (fetch C b (suc h) k3))) (low_fetch lv b (suc h) k3 (low_zero lv t b (suc h) k5 tk))
 
   low_memory : (lv : ℕ) (a : Place) (h n : ℕ) (k : Nodes) → Low lv k → Low lv (guard_memory C a h n k)
-  low_memory lv a h n k tk = low_fetch lv a h (out_test n k) tk
+  low_memory lv a h n k tk = low_fetch lv a h (out_test C.source n k) tk
 
   low_range : (lv : ℕ) (a : Place) (h : ℕ) (n : Place) (hn : ℕ) (k : Nodes) → Low lv k → Low lv (range_test C a h n hn k)
   low_range lv a h n hn k tk =
-      let k2 = basic 0 (Convert ExtendU) (basic 0 (Binary I64 Add) (past_end k)) in
+      let k2 = basic 0 (Convert ExtendU) (basic 0 (Binary I64 Add) (past_end C.source k)) in
       low_fetch lv a h (basic 0 (Convert ExtendU) (fetch C n hn k2)) (low_fetch lv n hn k2 tk)
 
   low_kind_division : (lv : ℕ) (op : BinaryOp) → Divider op → (t : ValType) (es : List Place) (k : Nodes) → Low lv k → Low lv (kind C (Binary t op) es k)
@@ -310,12 +320,17 @@ module _ (C : Ctx) where
   low_free lv None es k tk = tk
   low_free lv (Some x) es k tk = low_spill lv (λ y. x == y) es k tk
 
-  low_plain : (d : ℕ) (ls : ℕ) (es : List Place) (o : ℕ) (i : Basic) (go : List Place → Nodes) → AllLow d go → Low (suc (suc d)) (plain C ls es o i go)
-  low_plain d ls es o i go h =
+  low_lengthened : (lv : ℕ) (q : Bool) (k : Nodes) → Low lv k → Low lv (lengthened q C k)
+  low_lengthened lv false k tk = tk
+  low_lengthened lv true k tk = tk
+
+  low_plain : (d : ℕ) (ls : ℕ) (es : List Place) (o : ℕ) (i : Basic) (pass : Bool) (go : List Place → Nodes) → AllLow d go → Low (suc (suc d)) (plain C ls es o i pass go)
+  low_plain d ls es o i pass go h =
       let left = less (takes i) es in
       let k1 = go (after_plain C es i) in
-      let k2 = basic 0 i (keep C (result_place C es i) left k1) in
-      low_guarded d (needs C o i) ls es o i (free C i left k2) (needs_trap C o i) (low_free (suc (suc d)) (local_written i) left k2 (low_keep (suc (suc d)) (result_place C es i) left k1 (h (after_plain C es i))))
+      let kept = keep pass C (result_place C es i) left k1 in
+      let k2 = basic 0 i (lengthened (grows i) C kept) in
+      low_guarded d (needs C o i) ls es o i (free C i left k2) (needs_trap C o i) (low_free (suc (suc d)) (local_written i) left k2 (low_lengthened (suc (suc d)) (grows i) kept (low_keep (suc (suc d)) pass (result_place C es i) left k1 (h (after_plain C es i)))))
 
   -- ---- control
 
@@ -327,19 +342,19 @@ module _ (C : Ctx) where
   low_both : (d : ℕ) (ls : ℕ) (es : List Place) (o : ℕ) (others k : Nodes) → Low d others → Low (suc (suc d)) k → Low (suc (suc d)) (test_both C ls es o others k)
   low_both d ls es o others k to tk = (low_hand (suc d) es (get C (kind_at C) (if_any others (to_exit C ls))) (to, tt, tt), tt, tk)
 
-  low_result : (d : ℕ) (r : Option ValType) (es : List Place) (go : List Place → Nodes) → AllLow d go → Low (suc (suc d)) (with_result C r es go)
-  low_result d r es go h = low_keep (suc (suc d)) (option_map Spilled r) es (go (grown r es)) (h (grown r es))
+  low_result : (d : ℕ) (r : Option ValType) (es : List Place) (pass : Bool) (go : List Place → Nodes) → AllLow d go → Low (suc (suc d)) (with_result C r es pass go)
+  low_result d r es pass go h = low_keep (suc (suc d)) pass (option_map Spilled r) es (go (grown r es)) (h (grown r es))
 
-  low_after : (d : ℕ) (ls : ℕ) (r : Option ValType) (es : List Place) (o : ℕ) (go : List Place → Nodes) → AllLow d go → Low (suc (suc d)) (after_call C ls r es o go)
-  low_after d ls r es o go h = low_result d r es (λ es'. test_flag C ls es o (go es')) (λ es'. low_flag d ls es o (go es') (h es'))
+  low_after : (d : ℕ) (ls : ℕ) (r : Option ValType) (es : List Place) (o : ℕ) (pass : Bool) (go : List Place → Nodes) → AllLow d go → Low (suc (suc d)) (after_call C ls r es o pass go)
+  low_after d ls r es o pass go h = low_result d r es pass (λ es'. test_flag C ls es o (go es')) (λ es'. low_flag d ls es o (go es') (h es'))
 
-  low_direct : (d : ℕ) (q : Bool) (ls : ℕ) (r : Option ValType) (es : List Place) (o : ℕ) (go : List Place → Nodes) → AllLow d go → Low (suc (suc d)) (after_direct q C ls r es o go)
-  low_direct d true ls r es o go h = low_result d r es go h
-  low_direct d false ls r es o go h = low_after d ls r es o go h
+  low_direct : (d : ℕ) (q : Bool) (ls : ℕ) (r : Option ValType) (es : List Place) (o : ℕ) (pass : Bool) (go : List Place → Nodes) → AllLow d go → Low (suc (suc d)) (after_direct q C ls r es o pass go)
+  low_direct d true ls r es o pass go h = low_renewed (suc (suc d)) C.source.memories C.source (with_result C r es pass go) (low_result d r es pass go h)
+  low_direct d false ls r es o pass go h = low_after d ls r es o pass go h
 
-  low_call : (d : ℕ) (q : Option FuncType) (ls : ℕ) (es : List Place) (o f : ℕ) (go : List Place → Nodes) → AllLow d go → Low (suc (suc d)) (call_code C ls es o f q go)
-  low_call d None ls es o f go h = tt
-  low_call d (Some type) ls es o f go h = low_direct d (nat_lt f (import_count C.source)) ls (result_of type) (less (length type.params) es) o go h
+  low_call : (d : ℕ) (q : Option FuncType) (ls : ℕ) (es : List Place) (o f : ℕ) (pass : Bool) (go : List Place → Nodes) → AllLow d go → Low (suc (suc d)) (call_code C ls es o f q pass go)
+  low_call d None ls es o f pass go h = tt
+  low_call d (Some type) ls es o f pass go h = low_direct d (nat_lt f (import_count C.source)) ls (result_of type) (less (length type.params) es) o pass go h
 
   low_past : (d : ℕ) (q : Bool) (k : Nodes) → Low d k → Low d (past_shown q C k)
   low_past d false k h = h
@@ -353,44 +368,45 @@ module _ (C : Ctx) where
       let left = less n es in
       let r = result_of type in
       let others = hand_top C (suc n) (i ∷ es) stop in
-      let back = reload C r left (go (grown r left)) in
+      let loaded = reload C r left (go (grown r left)) in
+      let back = renew C.source loaded in
       let next_ = drops (suc n) back in
       let call_ = jump 0 (CallIndirect t) (store C r left stop) in
       let inner = past_shown (doubles C.source) C call_ in
       let k1 = set C (kind_at C) (get C (kind_at C) (basic 0 (Eqz I32) (if_any (load C (suc n) (i ∷ es) inner) (test_both C ls left o others next_)))) in
-      let low_back = low_drops (suc (suc d)) (suc n) back (low_reload (suc (suc d)) r left (go (grown r left)) (h (grown r left))) in
+      let low_back = low_drops (suc (suc d)) (suc n) back (low_renewed (suc (suc d)) C.source.memories C.source loaded (low_reload (suc (suc d)) r left (go (grown r left)) (h (grown r left)))) in
       low_fetch (suc (suc d)) i (length es) (call (helper_of C t) k1)
       (low_load (suc d) (suc n) (i ∷ es) inner (low_past (suc d) (doubles C.source) call_ (low_store (suc d) r left stop tt)), tt, low_both d ls left o others next_ (low_hand_top d (suc n) (i ∷ es) stop tt) low_back)
 
-  low_control : (d : ℕ) (j : Jump) (ls : ℕ) (es : List Place) (o : ℕ) (go : List Place → Nodes) → AllLow d go → Low (suc (suc d)) (control C ls es o j go)
-  low_control d Unreachable ls es o go h = low_tested d ls es o (const (i32 1)) (jump 0 Unreachable stop) (λ arm w. w) tt
-  low_control d (Br l) ls es o go h = tt
-  low_control d (BrIf l) ls es o go h = h (less 1 es)
-  low_control d (BrTable ts default) ls es o go h = tt
-  low_control d Return ls es o go h = tt
-  low_control d (Call f) ls es o go h = low_call d (type_at C.source f) ls es o f go h
-  low_control d (CallIndirect t) ls es o go h = low_indirect d (slice_get C.source.types t) ls es o t go h
+  low_control : (d : ℕ) (j : Jump) (ls : ℕ) (es : List Place) (o : ℕ) (pass : Bool) (go : List Place → Nodes) → AllLow d go → Low (suc (suc d)) (control C ls es o j pass go)
+  low_control d Unreachable ls es o pass go h = low_tested d ls es o (const (i32 1)) (jump 0 Unreachable stop) (λ arm w. w) tt
+  low_control d (Br l) ls es o pass go h = tt
+  low_control d (BrIf l) ls es o pass go h = h (less 1 es)
+  low_control d (BrTable ts default) ls es o pass go h = tt
+  low_control d Return ls es o pass go h = tt
+  low_control d (Call f) ls es o pass go h = low_call d (type_at C.source f) ls es o f pass go h
+  low_control d (CallIndirect t) ls es o pass go h = low_indirect d (slice_get C.source.types t) ls es o t go h
 
   -- ---- the nodes
 
   low_rewrite : (d : ℕ) (nodes : Nodes) (ls : ℕ) (es : List Place) → Low d nodes → Low (suc (suc d)) (rewrite C ls es nodes)
   low_rewrite d stop ls es h = tt
-  low_rewrite d (basic o i rest) ls es h = low_plain d ls es o i (λ es'. rewrite C ls es' rest) (λ es'. low_rewrite d rest ls es' h)
-  low_rewrite d (jump o j rest) ls es h = low_control d j ls es o (λ es'. rewrite C ls es' rest) (λ es'. low_rewrite d rest ls es' h)
+  low_rewrite d (basic o i rest) ls es h = low_plain d ls es o i (passes C rest) (λ es'. rewrite C ls es' rest) (λ es'. low_rewrite d rest ls es' h)
+  low_rewrite d (jump o j rest) ls es h = low_control d j ls es o (passes C rest) (λ es'. rewrite C ls es' rest) (λ es'. low_rewrite d rest ls es' h)
   low_rewrite zero (block o t inner en rest) ls es h = absurd h
   low_rewrite (suc d) (block o t inner en rest) ls es h =
-      low_spill (suc (suc (suc d))) (λ x. true) es (block 0 t (rewrite C (suc ls) (under es) inner) 0 (with_result C t (under es) (λ es'. rewrite C ls es' rest)))
-      (low_rewrite d inner (suc ls) (under es) h.0, low_result (suc d) t (under es) (λ es'. rewrite C ls es' rest) (λ es'. low_rewrite (suc d) rest ls es' h.1))
+      low_spill (suc (suc (suc d))) (λ x. true) es (block 0 t (rewrite C (suc ls) (under es) inner) 0 (with_result C t (under es) (passes C rest) (λ es'. rewrite C ls es' rest)))
+      (low_rewrite d inner (suc ls) (under es) h.0, low_result (suc d) t (under es) (passes C rest) (λ es'. rewrite C ls es' rest) (λ es'. low_rewrite (suc d) rest ls es' h.1))
   low_rewrite zero (loop o t inner en rest) ls es h = absurd h
   low_rewrite (suc d) (loop o t inner en rest) ls es h =
-      low_spill (suc (suc (suc d))) (λ x. true) es (loop 0 t (rewrite C (suc ls) (under es) inner) 0 (with_result C t (under es) (λ es'. rewrite C ls es' rest)))
-      (low_rewrite d inner (suc ls) (under es) h.0, low_result (suc d) t (under es) (λ es'. rewrite C ls es' rest) (λ es'. low_rewrite (suc d) rest ls es' h.1))
+      low_spill (suc (suc (suc d))) (λ x. true) es (loop 0 t (rewrite C (suc ls) (under es) inner) 0 (with_result C t (under es) (passes C rest) (λ es'. rewrite C ls es' rest)))
+      (low_rewrite d inner (suc ls) (under es) h.0, low_result (suc d) t (under es) (passes C rest) (λ es'. rewrite C ls es' rest) (λ es'. low_rewrite (suc d) rest ls es' h.1))
   low_rewrite zero (choose o t a ea b en rest) ls es h = absurd h
   low_rewrite (suc d) (choose o t a ea b en rest) ls es h =
       let left = under (less 1 es) in
       low_spill (suc (suc (suc d))) (λ x. true) (less 1 es)
-      (choose 0 t (rewrite C (suc ls) left a) (option_map (λ at. 0) ea) (rewrite C (suc ls) left b) 0 (with_result C t left (λ es'. rewrite C ls es' rest)))
-      (low_rewrite d a (suc ls) left h.0, low_rewrite d b (suc ls) left h.1, low_result (suc d) t left (λ es'. rewrite C ls es' rest) (λ es'. low_rewrite (suc d) rest ls es' h.2))
+      (choose 0 t (rewrite C (suc ls) left a) (option_map (λ at. 0) ea) (rewrite C (suc ls) left b) 0 (with_result C t left (passes C rest) (λ es'. rewrite C ls es' rest)))
+      (low_rewrite d a (suc ls) left h.0, low_rewrite d b (suc ls) left h.1, low_result (suc d) t left (passes C rest) (λ es'. rewrite C ls es' rest) (λ es'. low_rewrite (suc d) rest ls es' h.2))
 
   -- ---- the exit
 
@@ -455,7 +471,10 @@ low_globals lv m x [] k tk = tk
 low_globals lv m x (t ∷ ts) k tk = low_globals lv m (suc x) ts k tk
 
 pub low_wrapper : (lv : ℕ) (m : Module) (f : ℕ) → Low (suc lv) (wrapper m f)
-low_wrapper lv m f = low_get (suc lv) 0 (parameter_count (type_at m f)) (call (mapped m f) (after_wrapped m)) (low_globals lv m 0 (global_types m) _ tt, tt, tt)
+low_wrapper lv m f =
+    let n = parameter_count (type_at m f) in
+    let k = call (mapped m f) (after_wrapped m) in
+    low_renewed (suc lv) m.memories m (get_all 0 n k) (low_get (suc lv) 0 n k (low_globals lv m 0 (global_types m) _ tt, tt, tt))
 
 pub low_helper : (lv : ℕ) (m : Module) (t : ℕ) → Low (suc (suc (suc (suc lv)))) (helper m t)
 low_helper lv m t = ((((tt, tt), tt), tt), tt)

@@ -20,7 +20,7 @@ use Rattle.rewrite_bodies.specs.Numbering.{is_in, element_functions, mapped, glo
 use Rattle.rewrite_bodies.specs.calls.Pieces.{call, tree_of}
 use Rattle.std.proofs.lemmas.List.{length-map}
 use Rattle.rewrite_bodies.specs.calls.Known.{HasLeast}
-use Rattle.rewrite_bodies.specs.calls.Agreement.{Wit, MemoryFits, WorldFits, FitsTop, FitsConfig, Wrap, flagged}
+use Rattle.rewrite_bodies.specs.calls.Agreement.{Wit, MemoryFits, byte_count, WorldFits, FitsTop, FitsConfig, Wrap, flagged}
 use Rattle.rewrite_bodies.specs.calls.Telling.{collected}
 use Rattle.rewrite_bodies.proofs.Sim.{len_of}
 use Rattle.rewrite_bodies.specs.calls.Standing.{Stands}
@@ -28,7 +28,7 @@ use Rattle.rewrite_bodies.proofs.Calls.{AnswerRel, served_rel}
 use Rattle.wasm_syntax.specs.Run.{Ended, ended, run_steps, run_function, run_alone, host_alone, engine, globals_at_start, start_memory, start_table, start_world, cause_of_segments, got_stuck, Ran, ran_to, run_entry, go_on, invoked}
 use Rattle.rewrite_modules.specs.calls.Wrappers.{wrapper_nodes, wrapper}
 use Rattle.rewrite_modules.specs.calls.FlatCode.{body_of}
-use Rattle.rewrite_modules.specs.calls.Instrument.{new_module, instrument}
+use Rattle.rewrite_modules.specs.calls.Instrument.{memory_min, new_module, instrument}
 use Rattle.rewrite_bodies.specs.calls.Slots.{greatest}
 use Rattle.wasm_syntax.specs.Run as runs_
 use Rattle.wasm_syntax.specs.Sizes.{parameter_count}
@@ -48,6 +48,7 @@ pub record Fits (p : Program) : Type 0 where
   pub globals : types (globals_at_start p.module_) ≡ global_types p.module_
   pub memory : cause_of_segments p.module_ ≡ None → MemoryFits (start_memory p.module_)
   pub least : cause_of_segments p.module_ ≡ None → HasLeast p.module_.memories (start_memory p.module_)
+  pub measured : cause_of_segments p.module_ ≡ None → byte_count (start_memory p.module_) ≡ 65536 * memory_min p.module_.memories
   pub table : cause_of_segments p.module_ ≡ None → start_table p.module_ ≡ first_table p.module_
   pub exported : (name : List ℕ) (f : ℕ) → function_export p.module_ name ≡ Some f → (type : FuncType) × (type_at p.module_ f ≡ Some type)
   pub listed : (f : ℕ) → is_in f (element_functions p.module_) ≡ true → (type : FuncType) × (type_at p.module_ f ≡ Some type)
@@ -157,7 +158,7 @@ module _ (p : Program) (fit : Fits p) (d : ℕ) (deep : 0 < d) (low : d ≤ 1000
   seven j le ne = omega (arith, le, ne)
 
   pub world_alike : (c c' : Config) (up : ℕ) → c'.world ≡ flagged M c.world (values.I32 up) → SameState (Some c) (Some c')
-  world_alike c c' up e = (ap (λ w. w.memory) e, ap (λ w. take (length c.world.globals) w.globals) e ∙ take-append_seam c.world.globals (values.I32 up ∷ []))
+  world_alike c c' up e = (ap (λ w. w.memory) e, ap (λ w. take (length c.world.globals) w.globals) e ∙ take-append_seam c.world.globals (values.I32 up ∷ values.I64 (byte_count c.world.memory) ∷ []))
 
   frames_some : (wr : Option ValType) (Fs : List Frame) (ws : List Wit) → FitsTop M E gl wr Fs ws → 0 < length Fs
   frames_some wr [] ws h = absurd h

@@ -20,7 +20,7 @@ use Rattle.wasm_laws.proofs.Unique.{one_tree}
 use Rattle.rewrite_bodies.specs.Numbering.{import_count, mapped, value_import, frame_import, global_types, wrapped, helped}
 use Rattle.rewrite_bodies.specs.calls.Slots.{Ctx, ctx_of, slots_of, greatest}
 use Rattle.rewrite_bodies.specs.calls.Pieces.{const, i32, call, tree_of}
-use Rattle.rewrite_bodies.specs.calls.Guards.{helper}
+use Rattle.rewrite_bodies.specs.calls.Guards.{renew, helper}
 use Rattle.rewrite_bodies.specs.calls.Rewrite.{body}
 use Rattle.rewrite_bodies.specs.calls.Typed.{in_body, original}
 use Rattle.rewrite_bodies.specs.calls.Agreement.{Room}
@@ -39,7 +39,7 @@ use Rattle.rewrite_modules.proofs.Links.{Ready, is_defined, sizes_fit, function_
 use Rattle.rewrite_modules.proofs.Modules.{module_given}
 use Rattle.rewrite_modules.proofs.NewSizes.{type_in}
 use Rattle.rewrite_modules.proofs.Spots.{at_spots}
-use Rattle.rewrite_modules.proofs.StackPieces.{u_body, helper_under}
+use Rattle.rewrite_modules.proofs.StackPieces.{renewed_under, u_body, helper_under}
 use Rattle.rewrite_modules.proofs.Stacks.{Under, Under_call, fewer, under_bare, bare_under, few_at}
 use Rattle.rewrite_modules.proofs.Theorem.{startable_given, ready_given}
 use Rattle.rewrite_modules.proofs.ValidBodies.{offers}
@@ -118,7 +118,8 @@ module _ (p : Program) (ready : Ready p) (valid : Valid p.module_) (typed : Type
       let k = call (mapped m f) (after_wrapped m) in
       let behind : U (length type.results + (n + 0 - n)) (after_wrapped m) = fewer m' N (after_wrapped m) 1 (length type.results + (n + 0 - n)) (omega (arith, one)) u_after in
       let called : U (n + 0) k = (omega (arith, low), subst (λ q. Under_call q (n + 0) (λ j. Under m' N j (after_wrapped m))) (sym (function_type_kept p ready f type h.1)) behind) in
-      let all : U 0 (wrapper_nodes m f n) = (omega arith, (omega (arith, room), u_all 0 n 0 k (omega (arith, low)) called)) in
+      let renewed_ : U 0 (renew m (get_all 0 n k)) = renewed_under m' N m.memories m 0 (get_all 0 n k) (omega (arith, room)) (u_all 0 n 0 k (omega (arith, low)) called) in
+      let all : U 0 (wrapper_nodes m f n) = (omega arith, (omega (arith, room), renewed_)) in
       subst (λ x. U 0 (wrapper_nodes m f x)) (sym (ap parameter_count h.1)) all
 
   new_under : (f : ℕ) (q : Option Function) → function_at p f ≡ q → U 0 (new_tree p f q).nodes

@@ -361,7 +361,7 @@ module _ (p : Program) (fit : Fits p) (d : ℕ) (deep : 0 < d) (low : d ≤ 1000
       let cs = calls_are_of is r e in
       let st = starts_by m.start refl in
       let x = session_so ns is m.start st.0 (start_world m replies) 0 n st.2 (start_fits p fit d deep low replies cs.1) (fine replies) cs.0 nd in
-      let other : run_calls (instrument p) true is replies (d + 2) x.0 ≡ call_session M' is st.0 (flagged M (start_world m replies) (values.I32 0)) x.0 = ap (λ z. unless_cause M' z is replies x.0) (causes_same is r ∙ e) ∙ ap₂ (λ s w. call_session M' is s w x.0) st.1 (world_start p d replies) in
+      let other : run_calls (instrument p) true is replies (d + 2) x.0 ≡ call_session M' is st.0 (flagged M (start_world m replies) (values.I32 0)) x.0 = ap (λ z. unless_cause M' z is replies x.0) (causes_same is r ∙ e) ∙ ap₂ (λ s w. call_session M' is s w x.0) st.1 (world_start p d replies (fit.measured cs.1)) in
       (x.0, x.1, x.2, subst (AllFollowed (length m.globals) (call_session M is m.start (start_world m replies) n)) (sym other) x.3)
 
   pub all_so : NotStuck → ((replies : List Reply) → WorldFine m (start_world m replies)) → (is : List Calling) → AllReach m is → (replies : List Reply) (n : ℕ) → All_so is replies n (run_calls p false is replies d n)

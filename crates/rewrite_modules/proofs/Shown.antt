@@ -1,5 +1,5 @@
 -- What is collected of a trapped configuration is whole, and its dump is the image.
-use Rattle.std.proofs.Common.{◌≡◌, ℕ, suc, ◌+◌, ◌*◌, ◌<◌, ◌≤◌, List, [], ◌∷◌, ◌++◌, length, map, reverse, Option, None, refl, sym, ap, ◌∙◌, arith, append_assoc, append-nil, length-append, option_map, mul-le-mul}
+use Rattle.std.proofs.Common.{◌≡◌, ℕ, suc, ◌+◌, ◌*◌, ◌<◌, ◌≤◌, List, [], ◌∷◌, ◌++◌, length, map, reverse, Option, Some, None, Bool, true, false, refl, sym, ap, ◌∙◌, arith, append_assoc, append-nil, length-append, option_map, mul-le-mul}
 use Rattle.wasm_syntax.specs.declared.value.ValType.{ValType}
 use Rattle.wasm_syntax.specs.declared.value.Value.{Value}
 use Rattle.wasm_syntax.specs.declared.host.CollectorCall.{CollectorCall}
@@ -7,7 +7,8 @@ use Rattle.wasm_syntax.specs.declared.host.CollectorCall.TheVariants as collecto
 use Rattle.wasm_syntax.specs.Tree.{Nodes}
 use Rattle.wasm_syntax.specs.Machine.{Label, Frame, Config, frame, Engine, calls, offset_of}
 use Rattle.rewrite_bodies.specs.calls.Slots.{Place, Ctx, grown, greatest}
-use Rattle.rewrite_bodies.specs.calls.Agreement.{awaits, pending, joined, UnderWay, Wit, FitsLabels, FitsFrame, FitsFrames, FitsTop, FitsConfig}
+use Rattle.rewrite_bodies.specs.calls.Rewrite.{passes}
+use Rattle.rewrite_bodies.specs.calls.Agreement.{awaits, pending, joined, UnderWay, Wit, HoldsBut, FitsLabels, FitsOpen, FitsFrame, FitsFrames, FitsTop, FitsConfig}
 use Rattle.dump_write.specs.Collected.{value_call, Entry, entry_calls, calls_of, HaveKind, Whole, collected_dump}
 use Rattle.rewrite_bodies.specs.calls.Telling.{tell_ops, tell_labels, tell_locals, tell_frame, tell_outer, tell_frames, collected}
 use Rattle.std.proofs.lemmas.List.{map-append, reverse-append, length-reverse}
@@ -103,19 +104,34 @@ len_labels C l ex a (L ∷ Ls) [] co h = absurd h
 len_labels C l ex a (L ∷ Ls) (e ∷ ss) co h =
     omega (arith, len_ops L.operands (tell_labels Ls co), holds_len l ex (joined ss) e L.operands h.0, len_labels C [] ex (awaits (pending L.kind)) Ls ss co h.4, length-append e (joined ss))
 
-len_frame_in : (M : Engine) (E : ℕ) (gl : List ValType) (a : Option ValType) (k o : ℕ) (C : Ctx) (ex : List Value) (ss : List (List Place)) (others : Option UnderWay) (ix cl : ℕ) (r : Option ValType) (l : List Value) (Ls : List Label) (co : List CollectorCall) → FitsFrame M E gl a (frame ix r cl l Ls) (wit_under C ex ss others) → length (tell_frame k o (frame ix r cl l Ls) co) ≤ suc ((greatest M.program).0 + (greatest M.program).1) + length co
+-- of the operands of a label of which all but the topmost are kept
+len_but : (p : Bool) (l ex : List Value) (js e : List Place) (ops : List Value) → HoldsBut p l ex js ops e → length ops ≡ length e
+len_but false l ex js e ops h = holds_len l ex js e ops h
+len_but true l ex js [] [] h = refl
+len_but true l ex js [] (v ∷ ops) h = absurd h
+len_but true l ex js (e ∷ es) [] h = absurd h
+len_but true l ex js (e ∷ es) (v ∷ ops) h = ap suc (holds_len l ex js es ops h.1)
+
+len_open : (C : Ctx) (l ex : List Value) (a : Option (Option ValType)) (L : Label) (Ls : List Label) (e : List Place) (ss : List (List Place)) (co : List CollectorCall) → FitsOpen C l ex a (L ∷ Ls) (e ∷ ss) → (length (tell_labels (L ∷ Ls) co) ≡ length (joined (e ∷ ss)) + length co) × (length (e ++ joined ss) ≤ C.slots)
+len_open C l ex None L Ls e ss co h = (
+  omega (arith, len_ops L.operands (tell_labels Ls co), len_but (passes C L.nodes) l ex (joined ss) e L.operands h.0, len_labels C [] ex (awaits (pending L.kind)) Ls ss co h.4, length-append e (joined ss)),
+  room_height C (e ++ joined ss) L.nodes h.2,
+)
+len_open C l ex (Some a) L Ls e ss co h =
+    (len_labels C l ex a (L ∷ Ls) (e ∷ ss) co h, omega (arith, grown_longer a (e ++ joined ss), room_height C (grown a (e ++ joined ss)) L.nodes h.2))
+
+len_frame_in : (M : Engine) (E : ℕ) (gl : List ValType) (a : Option (Option ValType)) (k o : ℕ) (C : Ctx) (ex : List Value) (ss : List (List Place)) (others : Option UnderWay) (ix cl : ℕ) (r : Option ValType) (l : List Value) (Ls : List Label) (co : List CollectorCall) → FitsFrame M E gl a (frame ix r cl l Ls) (wit_under C ex ss others) → length (tell_frame k o (frame ix r cl l Ls) co) ≤ suc ((greatest M.program).0 + (greatest M.program).1) + length co
 len_frame_in M E gl a k o C ex ss others ix cl r l [] co f = absurd f.labels
 len_frame_in M E gl a k o C ex [] others ix cl r l (L ∷ Ls) co f = absurd f.labels
 len_frame_in M E gl a k o C ex (e ∷ ss) others ix cl r l (L ∷ Ls) co f =
-    let h = f.labels in
-    let low : length (e ++ joined ss) ≤ C.slots = omega (arith, grown_longer a (e ++ joined ss), room_height C (grown a (e ++ joined ss)) L.nodes h.2) in
-    omega (arith, len_locals l (tell_labels (L ∷ Ls) co), len_labels C l ex a (L ∷ Ls) (e ∷ ss) co h, low, f.narrow, len_of l C.locals f.size)
+    let h = len_open C l ex a L Ls e ss co f.labels in
+    omega (arith, len_locals l (tell_labels (L ∷ Ls) co), h.0, h.1, f.narrow, len_of l C.locals f.size)
 
 len_outer : (M : Engine) (E : ℕ) (gl : List ValType) (wr r : Option ValType) (Fs : List Frame) (ws : List Wit) (co : List CollectorCall) → FitsFrames M E gl wr r Fs ws → length (tell_outer Fs co) ≤ length Fs * suc ((greatest M.program).0 + (greatest M.program).1) + length co
 len_outer M E gl wr r [] ws co h = omega arith
 len_outer M E gl wr r (F ∷ Fs) [] co h = absurd h
 len_outer M E gl wr r (F ∷ Fs) (w ∷ ws) co h =
-    omega (arith, len_outer M E gl wr F.result Fs ws (tell_frame 0 F.call F co) h.1, len_frame_in M E gl r 0 F.call w.ctx w.ex w.ss w.under_way F.function F.call F.result F.locals F.labels co h.0)
+    omega (arith, len_outer M E gl wr F.result Fs ws (tell_frame 0 F.call F co) h.1, len_frame_in M E gl (Some r) 0 F.call w.ctx w.ex w.ss w.under_way F.function F.call F.result F.locals F.labels co h.0)
 
 len_top : (M : Engine) (E : ℕ) (gl : List ValType) (wr : Option ValType) (k : ℕ) (Fs : List Frame) (ws : List Wit) (co : List CollectorCall) → FitsTop M E gl wr Fs ws → length (tell_frames k Fs co) ≤ length Fs * suc ((greatest M.program).0 + (greatest M.program).1) + length co
 len_top M E gl wr k [] ws co h = absurd h

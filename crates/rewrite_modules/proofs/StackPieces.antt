@@ -8,11 +8,12 @@ use Rattle.int_ops.specs.declared.operators.Binary.TheVariants.{Add, And, Or, Sh
 use Rattle.int_ops.specs.declared.operators.Compare.TheVariants.{Eq, GtU, GtS}
 use Rattle.wasm_syntax.specs.declared.instruction.Convert.TheVariants.{ExtendU}
 use Rattle.wasm_syntax.specs.declared.value.ValType.{ValType}
+use Rattle.wasm_syntax.specs.declared.parts.Limits.{Limits}
 use Rattle.wasm_syntax.specs.declared.value.ValType.TheVariants.{I32, I64}
 use Rattle.wasm_syntax.specs.declared.value.Value.{Value}
 use Rattle.wasm_syntax.specs.declared.value.Value.TheVariants as values
 use Rattle.wasm_syntax.specs.declared.instruction.Basic.{Basic}
-use Rattle.wasm_syntax.specs.declared.instruction.Basic.TheVariants.{Drop, Select, LocalGet, LocalSet, LocalTee, GlobalGet, MemorySize, Const, Eqz, Compare, Binary, Convert}
+use Rattle.wasm_syntax.specs.declared.instruction.Basic.TheVariants.{Drop, Select, LocalGet, LocalSet, LocalTee, GlobalGet, GlobalSet, MemorySize, Const, Eqz, Compare, Binary, Convert}
 use Rattle.wasm_syntax.specs.declared.parts.FuncType.{FuncType}
 use Rattle.wasm_syntax.specs.declared.module.ModuleParts.{ModuleParts as Module}
 use Rattle.wasm_syntax.specs.Access.{load_bits, store_bits}
@@ -24,9 +25,9 @@ use Rattle.wasm_syntax.specs.Typing.{BasicTypes, JumpTypes, Types}
 use Rattle.wasm_syntax.specs.Run.{table_min}
 use Rattle.rewrite_bodies.specs.Numbering.{import_count, mapped, value_import, frame_import, flag_of, value_type, frame_type, doubles}
 use Rattle.rewrite_bodies.specs.calls.Slots.{Place, Spilled, Known, Copied, place_type, Ctx, slot, kind_at, offset_at, less, pushed, grown, uncopied, under, result_type, result_place, freed, after_plain, Landing, local_written}
-use Rattle.rewrite_bodies.specs.calls.Pieces.{get, set, const, i32, call, if_any, fetch, load, keep, store, reload, spill_one, spill, drops}
-use Rattle.rewrite_bodies.specs.calls.Guards.{guard, can_trap, least, minus_one, past_end, out_test, range_test, guard_zero, guard_signed, guard_memory, kind, helper, helper_type, memory_length}
-use Rattle.rewrite_bodies.specs.calls.Rewrite.{hand_value, hand, hand_top, to_exit, unwind, test_flag, hand_left, test_both, unwind_kind, tested, guarded, free, plain, with_result, after_direct, call_code, helper_of, past_shown, indirect_code, rewrite, hand_locals, raise_flag, zero_result, exit_code, body, checked, get_flag, hand_carried, landing_code, nested, laid, free_at}
+use Rattle.rewrite_bodies.specs.calls.Pieces.{get, set, const, i32, call, if_any, fetch, load, keep_slot, keep, store, reload, spill_one, spill, drops}
+use Rattle.rewrite_bodies.specs.calls.Guards.{guard, can_trap, least, minus_one, past_end, out_test, range_test, guard_zero, guard_signed, guard_memory, kind, helper, helper_type, length_of, get_length, set_length, renewed, renew}
+use Rattle.rewrite_bodies.specs.calls.Rewrite.{hand_value, hand, hand_top, to_exit, unwind, test_flag, hand_left, test_both, unwind_kind, tested, guarded, passes, free, plain, with_result, after_direct, call_code, helper_of, past_shown, indirect_code, rewrite, hand_locals, raise_flag, zero_result, exit_code, body, checked, get_flag, hand_carried, landing_code, nested, laid, free_at, grows, lengthened}
 use Rattle.rewrite_bodies.specs.calls.Typed.{Info, in_block, in_loop, in_body, Offers, original}
 use Rattle.rewrite_bodies.specs.calls.Agreement.{Room_call, Room}
 use Rattle.rewrite_bodies.proofs.Sim.{grown-append}
@@ -37,6 +38,35 @@ use Rattle.rewrite_bodies.proofs.Risks.{risk_of}
 use Rattle.wasm_syntax.specs.calls.Classes.{Divider, by_div_s, by_div_u, by_rem_s, by_rem_u, Risky, risky_binary, risky_load, risky_store, risky_copy, risky_fill}
 use Rattle.rewrite_bodies.specs.calls.Facts.{needs, exposed_in}
 use Rattle.rewrite_bodies.proofs.FactLaws.{needs_trap}
+
+-- the length of the memory is set, with two operands more
+module _ (m : Module) (N : ℕ) where
+  one_under : (h : ℕ) (i : Basic) (h1 : ℕ) (k : Nodes) → h ≤ N → gives_count i + (h - takes i) ≤ h1 → Under m N h1 k → Under m N h (basic 0 i k)
+  one_under h i h1 k le e u = (le, fewer m N k h1 (gives_count i + (h - takes i)) e u)
+
+  set_under : (src : Module) (b : ℕ) (k : Nodes) → b + 2 ≤ N → Under m N b k → Under m N b (set_length src k)
+  set_under src b k r u =
+      let k1 = basic 0 (GlobalSet (length_of src)) k in
+      let u1 : Under m N (suc b) k1 = one_under (suc b) (GlobalSet (length_of src)) b k (omega (arith, r)) (omega arith) u in
+      let k2 = basic 0 (Binary I64 Shl) k1 in
+      let u2 : Under m N (suc (suc b)) k2 = one_under (suc (suc b)) (Binary I64 Shl) (suc b) k1 (omega (arith, r)) (omega arith) u1 in
+      let k3 = const (values.I64 16) k2 in
+      let u3 : Under m N (suc b) k3 = one_under (suc b) (Const (values.I64 16)) (suc (suc b)) k2 (omega (arith, r)) (omega arith) u2 in
+      let k4 = basic 0 (Convert ExtendU) k3 in
+      let u4 : Under m N (suc b) k4 = one_under (suc b) (Convert ExtendU) (suc b) k3 (omega (arith, r)) (omega arith) u3 in
+      one_under b MemorySize (suc b) k4 (omega (arith, r)) (omega arith) u4
+
+  pub renewed_under : (ls : List Limits) (src : Module) (b : ℕ) (k : Nodes) → b + 2 ≤ N → Under m N b k → Under m N b (renewed ls src k)
+  renewed_under [] src b k r u = u
+  renewed_under (l ∷ ls) src b k r u = set_under src b k r u
+
+  lengthened_under : (q : Bool) (C : Ctx) (b : ℕ) (k : Nodes) → b + 2 ≤ N → Under m N b k → Under m N b (lengthened q C k)
+  lengthened_under false C b k r u = u
+  lengthened_under true C b k r u = set_under C.source b k r u
+
+at_most_one : {A : Type 0} (o : Option A) → length (option_to_list o) ≤ 1
+at_most_one None = omega arith
+at_most_one (Some x) = omega arith
 
 -- the operands of the original are on the stack, and those of a call through the table once more
 module _ (C : Ctx) (m : Module) (locals : List ValType) (off : Offers C m locals) (N : ℕ) (room : 2 * C.slots + 16 ≤ N) where
@@ -78,14 +108,18 @@ module _ (C : Ctx) (m : Module) (locals : List ValType) (off : Offers C m locals
   u_reload b None es k le u = fewer m N k (0 + b) b (omega arith) u
   u_reload b (Some t) es k le u = u_get b (slot t (length es)) k (omega (arith, le)) (fewer m N k (1 + b) (suc b) (omega arith) u)
 
-  u_tee : (b : ℕ) (e : Place) (es : List Place) (k : Nodes) → suc b ≤ N → U (suc b) k → U (suc b) (keep C (Some e) es k)
-  u_tee b (Spilled t) es k le u = u_basic (suc b) (LocalTee (length C.locals + slot t (length es))) (suc b) k le (omega arith) u
-  u_tee b (Known v) es k le u = u
-  u_tee b (Copied t x) es k le u = u
+  u_tee : (pass : Bool) (b : ℕ) (t : ValType) (es : List Place) (k : Nodes) → suc b ≤ N → U (suc b) k → U (suc b) (keep_slot pass C t es k)
+  u_tee true b t es k le u = u
+  u_tee false b t es k le u = u_basic (suc b) (LocalTee (length C.locals + slot t (length es))) (suc b) k le (omega arith) u
 
-  u_keep : (b : ℕ) (p : Option Place) (es : List Place) (k : Nodes) → suc b ≤ N → U (length (option_to_list (option_map place_type p)) + b) k → U (length (option_to_list (option_map place_type p)) + b) (keep C p es k)
-  u_keep b None es k le u = u
-  u_keep b (Some e) es k le u = fewer m N (keep C (Some e) es k) (suc b) (1 + b) (omega arith) (u_tee b e es k le (fewer m N k (1 + b) (suc b) (omega arith) u))
+  u_one : (pass : Bool) (b : ℕ) (e : Place) (es : List Place) (k : Nodes) → suc b ≤ N → U (suc b) k → U (suc b) (keep pass C (Some e) es k)
+  u_one pass b (Spilled t) es k le u = u_tee pass b t es k le u
+  u_one pass b (Known v) es k le u = u
+  u_one pass b (Copied t x) es k le u = u
+
+  u_keep : (pass : Bool) (b : ℕ) (p : Option Place) (es : List Place) (k : Nodes) → suc b ≤ N → U (length (option_to_list (option_map place_type p)) + b) k → U (length (option_to_list (option_map place_type p)) + b) (keep pass C p es k)
+  u_keep pass b None es k le u = u
+  u_keep pass b (Some e) es k le u = fewer m N (keep pass C (Some e) es k) (suc b) (1 + b) (omega arith) (u_one pass b e es k le (fewer m N k (1 + b) (suc b) (omega arith) u))
 
   u_drops : (b n : ℕ) (k : Nodes) → n + b ≤ N → U b k → U (n + b) (drops n k)
   u_drops b zero k le u = fewer m N k b (0 + b) (omega arith) u
@@ -190,17 +224,10 @@ module _ (C : Ctx) (m : Module) (locals : List ValType) (off : Offers C m locals
       let u6 : U (suc (suc b)) k6 = u_basic (suc (suc b)) (Compare t Eq) (suc b) k5 (omega (arith, r)) (omega arith) u5 in
       u_fetch b a h (const (least t) k6) (omega (arith, r)) (u_const (suc b) (least t) k6 (omega (arith, r)) u6)
 
-  u_length : (b : ℕ) → b + 6 ≤ N → (k : Nodes) → U (suc b) k → U b (memory_length k)
-  u_length b r k u =
-      let k2 = basic 0 (Binary I64 Shl) k in
-      let u2 : U (suc (suc b)) k2 = u_basic (suc (suc b)) (Binary I64 Shl) (suc b) k (omega (arith, r)) (omega arith) u in
-      let k3 = const (values.I64 16) k2 in
-      let u3 : U (suc b) k3 = u_const (suc b) (values.I64 16) k2 (omega (arith, r)) u2 in
-      let k4 = basic 0 (Convert ExtendU) k3 in
-      let u4 : U (suc b) k4 = u_basic (suc b) (Convert ExtendU) (suc b) k3 (omega (arith, r)) (omega arith) u3 in
-      u_basic b MemorySize (suc b) k4 (omega (arith, r)) (omega arith) u4
+  u_length : (b : ℕ) → b ≤ N → (k : Nodes) → U (suc b) k → U b (get_length C.source k)
+  u_length b r k u = u_basic b (GlobalGet (length_of C.source)) (suc b) k r (omega arith) u
 
-  u_past : (b : ℕ) → b + 8 ≤ N → (k : Nodes) → U (suc b) k → U (suc b) (past_end k)
+  u_past : (b : ℕ) → b + 8 ≤ N → (k : Nodes) → U (suc b) k → U (suc b) (past_end C.source k)
   u_past b r k u =
       let k1 = basic 0 (Compare I64 GtU) k in
       u_length (suc b) (omega (arith, r)) k1 (u_basic (suc (suc b)) (Compare I64 GtU) (suc b) k (omega (arith, r)) (omega arith) u)
@@ -213,13 +240,13 @@ module _ (C : Ctx) (m : Module) (locals : List ValType) (off : Offers C m locals
       let u2 : U (suc (suc (suc b))) k2 = u_basic (suc (suc (suc b))) (Binary I64 Sub) (suc (suc b)) k1 (omega (arith, r)) (omega arith) u1 in
       let k3 = const (values.I64 n) k2 in
       let u3 : U (suc (suc b)) k3 = u_const (suc (suc b)) (values.I64 n) k2 (omega (arith, r)) u2 in
-      let u4 : U (suc b) (memory_length k3) = u_length (suc b) (omega (arith, r)) k3 u3 in
-      u_fetch b a h (out_test n k) (omega (arith, r)) (u_basic (suc b) (Convert ExtendU) (suc b) (memory_length k3) (omega (arith, r)) (omega arith) u4)
+      let u4 : U (suc b) (get_length C.source k3) = u_length (suc b) (omega (arith, r)) k3 u3 in
+      u_fetch b a h (out_test C.source n k) (omega (arith, r)) (u_basic (suc b) (Convert ExtendU) (suc b) (get_length C.source k3) (omega (arith, r)) (omega arith) u4)
 
   u_range : (b : ℕ) → b + 12 ≤ N → (a : Place) (h : ℕ) (n : Place) (hn : ℕ) (k : Nodes) → U (suc b) k → U b (range_test C a h n hn k)
   u_range b r a h n hn k u =
-      let k1 = basic 0 (Binary I64 Add) (past_end k) in
-      let u1 : U (suc (suc b)) k1 = u_basic (suc (suc b)) (Binary I64 Add) (suc b) (past_end k) (omega (arith, r)) (omega arith) (u_past b (omega (arith, r)) k u) in
+      let k1 = basic 0 (Binary I64 Add) (past_end C.source k) in
+      let u1 : U (suc (suc b)) k1 = u_basic (suc (suc b)) (Binary I64 Add) (suc b) (past_end C.source k) (omega (arith, r)) (omega arith) (u_past b (omega (arith, r)) k u) in
       let k2 = basic 0 (Convert ExtendU) k1 in
       let u2 : U (suc (suc b)) k2 = u_basic (suc (suc b)) (Convert ExtendU) (suc (suc b)) k1 (omega (arith, r)) (omega arith) u1 in
       let k3 = fetch C n hn k2 in
@@ -313,7 +340,7 @@ module _ (C : Ctx) (m : Module) (locals : List ValType) (off : Offers C m locals
   there : (own js : List Place) (taken below : List ValType) → map place_type own ≡ taken ++ below → length taken ≤ length (own ++ js)
   there own js taken below e = omega (arith, ap length e, length-append taken below, length-map own place_type, length-append own js)
 
-  u_plain : (ls : List Info) (i : Basic) (own js : List Place) (o : ℕ) (rest : Nodes) (between : List ValType) → Fixed js → BasicTypes (original C ls) i (map place_type own) between → Room C (own ++ js) (basic o i rest) → Rest ls js rest between → U (length (own ++ js)) (plain C (length ls) (own ++ js) o i (λ es'. rewrite C (length ls) es' rest))
+  u_plain : (ls : List Info) (i : Basic) (own js : List Place) (o : ℕ) (rest : Nodes) (between : List ValType) → Fixed js → BasicTypes (original C ls) i (map place_type own) between → Room C (own ++ js) (basic o i rest) → Rest ls js rest between → U (length (own ++ js)) (plain C (length ls) (own ++ js) o i (passes C rest) (λ es'. rewrite C (length ls) es' rest))
   u_plain ls i own js o rest between f h rm ih =
       let es = own ++ js in
       let b = length es in
@@ -328,25 +355,32 @@ module _ (C : Ctx) (m : Module) (locals : List ValType) (off : Offers C m locals
       let rp : length (option_to_list (option_map place_type p)) ≡ gives_count i = ap (λ z. length (option_to_list z)) (result_is C es i) ∙ ap length (sym T.gives) ∙ gives_len (original C ls) i h.any h.arrow_is h.has in
       let count : length (after_plain C es i) ≡ length (option_to_list (result_type C es i)) + length left = sym (length-map (after_plain C es i) place_type) ∙ ap length (after_types C es i) ∙ length-append (option_to_list (result_type C es i)) (map place_type left) ∙ ap (λ z. length (option_to_list (result_type C es i)) + z) (length-map left place_type) in
       let same : length (option_to_list (result_type C es i)) ≡ gives_count i = ap length (sym T.gives) ∙ gives_len (original C ls) i h.any h.arrow_is h.has in
-      let code = keep C p left k in
+      let code = keep (passes C rest) C p left k in
       let r = roomy es rm.0 in
       let lm = less_minus (takes i) es in
-      let k2 : U (length (option_to_list (option_map place_type p)) + length left) code = u_keep (length left) p left k (omega (arith, r, lm)) (fewer m N k (length (after_plain C es i)) (length (option_to_list (option_map place_type p)) + length left) (omega (arith, rp, count, same)) k1) in
-      let k3 : U b (basic 0 i code) = u_basic b i (length (option_to_list (option_map place_type p)) + length left) code (omega (arith, r)) (omega (arith, rp, lm)) k2 in
-      u_guarded b r (needs C o i) d es o i (free C i left (basic 0 i code)) (needs_trap C o i) (u_free b r (local_written i) left (basic 0 i code) k3)
+      let k2 : U (length (option_to_list (option_map place_type p)) + length left) code = u_keep (passes C rest) (length left) p left k (omega (arith, r, lm)) (fewer m N k (length (after_plain C es i)) (length (option_to_list (option_map place_type p)) + length left) (omega (arith, rp, count, same)) k1) in
+      let behind = lengthened (grows i) C code in
+      let few = at_most_one (option_map place_type p) in
+      let k2b : U (length (option_to_list (option_map place_type p)) + length left) behind = lengthened_under m N (grows i) C (length (option_to_list (option_map place_type p)) + length left) code (omega (arith, r, lm, few)) k2 in
+      let k3 : U b (basic 0 i behind) = u_basic b i (length (option_to_list (option_map place_type p)) + length left) behind (omega (arith, r)) (omega (arith, rp, lm)) k2b in
+      u_guarded b r (needs C o i) d es o i (free C i left (basic 0 i behind)) (needs_trap C o i) (u_free b r (local_written i) left (basic 0 i behind) k3)
 
   -- ---- calls
 
-  u_result : (r : Option ValType) (es : List Place) (k : Nodes) → suc (length es) ≤ N → U (length (grown r es)) k → U (length (option_to_list r) + length es) (keep C (option_map Spilled r) es k)
-  u_result None es k le u = fewer m N k (length es) (0 + length es) (omega arith) u
-  u_result (Some t) es k le u = fewer m N (keep C (Some (Spilled t)) es k) (suc (length es)) (1 + length es) (omega arith) (u_tee (length es) (Spilled t) es k le u)
+  u_result : (pass : Bool) (r : Option ValType) (es : List Place) (k : Nodes) → suc (length es) ≤ N → U (length (grown r es)) k → U (length (option_to_list r) + length es) (keep pass C (option_map Spilled r) es k)
+  u_result pass None es k le u = fewer m N k (length es) (0 + length es) (omega arith) u
+  u_result pass (Some t) es k le u = fewer m N (keep pass C (Some (Spilled t)) es k) (suc (length es)) (1 + length es) (omega arith) (u_tee pass (length es) t es k le u)
 
-  u_after : (q : Bool) (d : ℕ) (r : Option ValType) (es : List Place) (o : ℕ) (rest : Nodes) → suc (suc (length es)) ≤ N → U (length (grown r es)) (rewrite C d (grown r es) rest) → U (length (option_to_list r) + length es) (after_direct q C d r es o (λ es'. rewrite C d es' rest))
-  u_after true d r es o rest le u = u_result r es (rewrite C d (grown r es) rest) (omega (arith, le)) u
+  u_after : (q : Bool) (d : ℕ) (r : Option ValType) (es : List Place) (o : ℕ) (rest : Nodes) → length es + 3 ≤ N → U (length (grown r es)) (rewrite C d (grown r es) rest) → U (length (option_to_list r) + length es) (after_direct q C d r es o (passes C rest) (λ es'. rewrite C d es' rest))
+  u_after true d r es o rest le u =
+      let few = at_most_one r in
+      renewed_under m N C.source.memories C.source (length (option_to_list r) + length es) (with_result C r es (passes C rest) (λ es'. rewrite C d es' rest)) (omega (arith, le, few)) (u_result (passes C rest) r es (rewrite C d (grown r es) rest) (omega (arith, le)) u)
   u_after false d None es o rest le u = fewer m N (test_flag C d es o (rewrite C d es rest)) (length es) (0 + length es) (omega arith) (u_flag (length es) d es o (rewrite C d es rest) (omega (arith, le)) u)
   u_after false d (Some t) es o rest le u =
-      fewer m N (keep C (Some (Spilled t)) es (test_flag C d es o (rewrite C d (Spilled t ∷ es) rest))) (suc (length es)) (1 + length es) (omega arith)
-      (u_tee (length es) (Spilled t) es (test_flag C d es o (rewrite C d (Spilled t ∷ es) rest)) (omega (arith, le)) (u_flag (suc (length es)) d es o (rewrite C d (Spilled t ∷ es) rest) le u))
+      let pass = passes C rest in
+      let k = test_flag C d es o (rewrite C d (Spilled t ∷ es) rest) in
+      fewer m N (keep pass C (Some (Spilled t)) es k) (suc (length es)) (1 + length es) (omega arith)
+      (u_tee pass (length es) t es k (omega (arith, le)) (u_flag (suc (length es)) d es o (rewrite C d (Spilled t ∷ es) rest) (omega (arith, le)) u))
 
   -- what is left behind a call
   abbrev Left : FuncType → List Info → List Place → Nodes → Type 0
@@ -362,7 +396,7 @@ module _ (C : Ctx) (m : Module) (locals : List ValType) (off : Offers C m locals
   results_len : (type : FuncType) → reverse type.results ≡ option_to_list (result_of type) → length type.results ≡ length (option_to_list (result_of type))
   results_len type one = sym (length-reverse type.results) ∙ ap length one
 
-  u_calls : (ls : List Info) (f : ℕ) (own js : List Place) (o : ℕ) (rest : Nodes) (between : List ValType) → JumpTypes (original C ls) (Call f) (map place_type own) between → Room C (own ++ js) (jump o (Call f) rest) → Rest ls js rest between → U (length (own ++ js)) (call_code C (length ls) (own ++ js) o f (type_at C.source f) (λ es'. rewrite C (length ls) es' rest))
+  u_calls : (ls : List Info) (f : ℕ) (own js : List Place) (o : ℕ) (rest : Nodes) (between : List ValType) → JumpTypes (original C ls) (Call f) (map place_type own) between → Room C (own ++ js) (jump o (Call f) rest) → Rest ls js rest between → U (length (own ++ js)) (call_code C (length ls) (own ++ js) o f (type_at C.source f) (passes C rest) (λ es'. rewrite C (length ls) es' rest))
   u_calls ls f own js o rest between h rm ih =
       let type = h.0 in
       let es = own ++ js in
@@ -374,10 +408,10 @@ module _ (C : Ctx) (m : Module) (locals : List ValType) (off : Offers C m locals
       let fit = roomy es rm.0 in
       let lm = less_minus n es in
       let rm1 = subst (λ q. Room_call C q es (λ es'. Room C es' rest)) h.1 rm.1 in
-      let code = after_direct q C (length ls) r left o (λ es'. rewrite C (length ls) es' rest) in
+      let code = after_direct q C (length ls) r left o (passes C rest) (λ es'. rewrite C (length ls) es' rest) in
       let k1 : U (length (option_to_list r) + length left) code = u_after q (length ls) r left o rest (omega (arith, fit, lm)) (u_left type ls own js rest between h.2.below one h.2.takes h.2.gives rm1.1 ih) in
       let k2 : U (length es) (call (mapped C.source f) code) = u_call (length es) (mapped C.source f) type (length (option_to_list r) + length left) code (off.functions f type h.1) (omega (arith, fit)) (omega (arith, results_len type one, lm)) k1 in
-      subst (λ q. U (length es) (call_code C (length ls) es o f q (λ es'. rewrite C (length ls) es' rest))) (sym h.1) k2
+      subst (λ q. U (length es) (call_code C (length ls) es o f q (passes C rest) (λ es'. rewrite C (length ls) es' rest))) (sym h.1) k2
 
   -- the index of an entry is moved, above so many
   u_moved : (h : ℕ) (q : Bool) (k : Nodes) → suc (suc h) ≤ N → U (suc h) k → U (suc h) (past_shown q C k)
@@ -405,8 +439,10 @@ module _ (C : Ctx) (m : Module) (locals : List ValType) (off : Offers C m locals
       let next_ = rewrite C d (grown r left) rest in
       let u_next : U (length (grown r left)) next_ = u_left type ls own js rest between h.3.below one tk h.3.gives rm1.1 ih in
       let grown_len : length (grown r left) ≡ length (option_to_list r) + length left = grown_count r left in
-      let back = reload C r left next_ in
-      let u_back : U (length left) back = u_reload (length left) r left next_ (omega (arith, fit, lm)) (fewer m N next_ (length (grown r left)) (length (option_to_list r) + length left) (omega (arith, grown_len)) u_next) in
+      let loaded = reload C r left next_ in
+      let back = renew C.source loaded in
+      let u_loaded : U (length left) loaded = u_reload (length left) r left next_ (omega (arith, fit, lm)) (fewer m N next_ (length (grown r left)) (length (option_to_list r) + length left) (omega (arith, grown_len)) u_next) in
+      let u_back : U (length left) back = renewed_under m N C.source.memories C.source (length left) loaded (omega (arith, fit, lm)) u_loaded in
       let u_drop : U b (drops (suc n) back) = fewer m N (drops (suc n) back) (suc n + length left) b (omega (arith, lm, enough)) (u_drops (length left) (suc n) back (omega (arith, lm, enough, fit)) u_back) in
       let others = hand_top C (suc n) (p ∷ es) stop in
       let call_ = jump 0 (CallIndirect t) (store C r left stop) in
@@ -441,11 +477,11 @@ module _ (C : Ctx) (m : Module) (locals : List ValType) (off : Offers C m locals
       let es = own ++ js in
       (omega (arith, rm.0, room), fewer m N (rewrite C (length ls) es rest) (length es) (suc (length es) - 1) (omega arith) (ih own (below ∙ sym h.2.gives) rm.1))
 
-  u_behind : (ls : List Info) (t : Option ValType) (own js : List Place) (rest : Nodes) (before : List ValType) → map place_type own ≡ before → suc (length (own ++ js)) ≤ N → Room C (grown t (own ++ js)) rest → Rest ls js rest (option_to_list t ++ before) → U (length (option_to_list t) + length (own ++ js)) (with_result C t (own ++ js) (λ es'. rewrite C (length ls) es' rest))
+  u_behind : (ls : List Info) (t : Option ValType) (own js : List Place) (rest : Nodes) (before : List ValType) → map place_type own ≡ before → suc (length (own ++ js)) ≤ N → Room C (grown t (own ++ js)) rest → Rest ls js rest (option_to_list t ++ before) → U (length (option_to_list t) + length (own ++ js)) (with_result C t (own ++ js) (passes C rest) (λ es'. rewrite C (length ls) es' rest))
   u_behind ls t own js rest before e le rm ih =
       let conv = grown-append t own js in
       let u = subst (λ z. U (length z) (rewrite C (length ls) z rest)) (sym conv) (ih (grown t own) (grown_types t own before e) (subst (λ z. Room C z rest) conv rm)) in
-      u_result t (own ++ js) (rewrite C (length ls) (grown t (own ++ js)) rest) le u
+      u_result (passes C rest) t (own ++ js) (rewrite C (length ls) (grown t (own ++ js)) rest) le u
 
   u_rewrite : (nodes : Nodes) (ls : List Info) (own js : List Place) (before after : List ValType) → map place_type own ≡ before → Fixed js → Room C (own ++ js) nodes → Types (original C ls) nodes before after → U (length (own ++ js)) (rewrite C (length ls) (own ++ js) nodes)
   u_rewrite stop ls own js before after e f rm ty = omega (arith, rm, room)
@@ -475,8 +511,8 @@ module _ (C : Ctx) (m : Module) (locals : List ValType) (off : Offers C m locals
       let len : length (u ++ js) ≡ length es = ap length (sym sp) ∙ length-map es (uncopied (λ x. true)) in
       let r = roomy es rm.0 in
       let a : U (length (u ++ js)) (rewrite C (suc d) (u ++ js) inner) = u_rewrite inner (in_block t ∷ ls) [] (u ++ js) [] (option_to_list t) refl fu (subst (λ z. Room C z inner) sp rm.1) ty.0 in
-      let c : U (length (option_to_list t) + length (u ++ js)) (with_result C t (u ++ js) (λ es'. rewrite C d es' rest)) = u_behind ls t u js rest before (without_types (λ x. true) own ∙ e) (omega (arith, len, r)) (subst (λ z. Room C (grown t z) rest) sp rm.3) (λ own' e' rm'. u_rewrite rest ls own' js (option_to_list t ++ before) after e' f rm' ty.1) in
-      let code = λ (z : List Place). block 0 t (rewrite C (suc d) z inner) 0 (with_result C t z (λ es'. rewrite C d es' rest)) in
+      let c : U (length (option_to_list t) + length (u ++ js)) (with_result C t (u ++ js) (passes C rest) (λ es'. rewrite C d es' rest)) = u_behind ls t u js rest before (without_types (λ x. true) own ∙ e) (omega (arith, len, r)) (subst (λ z. Room C (grown t z) rest) sp rm.3) (λ own' e' rm'. u_rewrite rest ls own' js (option_to_list t ++ before) after e' f rm' ty.1) in
+      let code = λ (z : List Place). block 0 t (rewrite C (suc d) z inner) 0 (with_result C t z (passes C rest) (λ es'. rewrite C d es' rest)) in
       let k : U (length (u ++ js)) (code (u ++ js)) = (omega (arith, len, r), a, c) in
       let k1 : U (length es) (code (u ++ js)) = fewer m N (code (u ++ js)) (length (u ++ js)) (length es) (omega (arith, len)) k in
       u_spill (length es) (λ x. true) es (code (under es)) (omega (arith, r)) (subst (λ z. U (length es) (code z)) (sym sp) k1)
@@ -489,8 +525,8 @@ module _ (C : Ctx) (m : Module) (locals : List ValType) (off : Offers C m locals
       let len : length (u ++ js) ≡ length es = ap length (sym sp) ∙ length-map es (uncopied (λ x. true)) in
       let r = roomy es rm.0 in
       let a : U (length (u ++ js)) (rewrite C (suc d) (u ++ js) inner) = u_rewrite inner (in_loop t ∷ ls) [] (u ++ js) [] (option_to_list t) refl fu (subst (λ z. Room C z inner) sp rm.1) ty.0 in
-      let c : U (length (option_to_list t) + length (u ++ js)) (with_result C t (u ++ js) (λ es'. rewrite C d es' rest)) = u_behind ls t u js rest before (without_types (λ x. true) own ∙ e) (omega (arith, len, r)) (subst (λ z. Room C (grown t z) rest) sp rm.3) (λ own' e' rm'. u_rewrite rest ls own' js (option_to_list t ++ before) after e' f rm' ty.1) in
-      let code = λ (z : List Place). loop 0 t (rewrite C (suc d) z inner) 0 (with_result C t z (λ es'. rewrite C d es' rest)) in
+      let c : U (length (option_to_list t) + length (u ++ js)) (with_result C t (u ++ js) (passes C rest) (λ es'. rewrite C d es' rest)) = u_behind ls t u js rest before (without_types (λ x. true) own ∙ e) (omega (arith, len, r)) (subst (λ z. Room C (grown t z) rest) sp rm.3) (λ own' e' rm'. u_rewrite rest ls own' js (option_to_list t ++ before) after e' f rm' ty.1) in
+      let code = λ (z : List Place). loop 0 t (rewrite C (suc d) z inner) 0 (with_result C t z (passes C rest) (λ es'. rewrite C d es' rest)) in
       let k : U (length (u ++ js)) (code (u ++ js)) = (omega (arith, len, r), a, c) in
       let k1 : U (length es) (code (u ++ js)) = fewer m N (code (u ++ js)) (length (u ++ js)) (length es) (omega (arith, len)) k in
       u_spill (length es) (λ x. true) es (code (under es)) (omega (arith, r)) (subst (λ z. U (length es) (code z)) (sym sp) k1)
@@ -507,14 +543,14 @@ module _ (C : Ctx) (m : Module) (locals : List ValType) (off : Offers C m locals
       let r = roomy (p ∷ es) rm.0 in
       let a : U (length (u ++ js)) (rewrite C (suc d) (u ++ js) x) = u_rewrite x (in_block t ∷ ls) [] (u ++ js) [] (option_to_list t) refl fu (subst (λ z. Room C z x) sp rm.1) ty.0 in
       let b : U (length (u ++ js)) (rewrite C (suc d) (u ++ js) y) = u_rewrite y (in_block t ∷ ls) [] (u ++ js) [] (option_to_list t) refl fu (subst (λ z. Room C z y) sp rm.2) ty.1 in
-      let c : U (length (option_to_list t) + length (u ++ js)) (with_result C t (u ++ js) (λ es'. rewrite C d es' rest)) = u_behind ls t u js rest ty.2 (without_types (λ x. true) own ∙ below) (omega (arith, len, r)) (subst (λ z. Room C (grown t z) rest) sp rm.4) (λ own' e' rm'. u_rewrite rest ls own' js (option_to_list t ++ ty.2) after e' f rm' ty.4) in
-      let code = λ (z : List Place). choose 0 t (rewrite C (suc d) z x) (option_map (λ at. 0) ea) (rewrite C (suc d) z y) 0 (with_result C t z (λ es'. rewrite C d es' rest)) in
+      let c : U (length (option_to_list t) + length (u ++ js)) (with_result C t (u ++ js) (passes C rest) (λ es'. rewrite C d es' rest)) = u_behind ls t u js rest ty.2 (without_types (λ x. true) own ∙ below) (omega (arith, len, r)) (subst (λ z. Room C (grown t z) rest) sp rm.4) (λ own' e' rm'. u_rewrite rest ls own' js (option_to_list t ++ ty.2) after e' f rm' ty.4) in
+      let code = λ (z : List Place). choose 0 t (rewrite C (suc d) z x) (option_map (λ at. 0) ea) (rewrite C (suc d) z y) 0 (with_result C t z (passes C rest) (λ es'. rewrite C d es' rest)) in
       let n1 = suc (length es) - 1 in
       let k : U (suc (length es)) (code (u ++ js)) = (
         omega (arith, r),
         fewer m N (rewrite C (suc d) (u ++ js) x) (length (u ++ js)) n1 (omega (arith, len)) a,
         fewer m N (rewrite C (suc d) (u ++ js) y) (length (u ++ js)) n1 (omega (arith, len)) b,
-        fewer m N (with_result C t (u ++ js) (λ es'. rewrite C d es' rest)) (length (option_to_list t) + length (u ++ js)) (length (option_to_list t) + n1) (omega (arith, len)) c,
+        fewer m N (with_result C t (u ++ js) (passes C rest) (λ es'. rewrite C d es' rest)) (length (option_to_list t) + length (u ++ js)) (length (option_to_list t) + n1) (omega (arith, len)) c,
       ) in
       u_spill (suc (length es)) (λ x. true) es (code (under es)) (omega (arith, r)) (subst (λ z. U (suc (length es)) (code z)) (sym sp) k)
 

@@ -1,5 +1,5 @@
 -- The start of the two instances, and their exports.
-use Rattle.std.proofs.Common.{◌≡◌, ℕ, zero, suc, ◌+◌, ◌≤◌, List, [], ◌∷◌, ◌++◌, length, map, Option, Some, None, Bool, true, false, ◌&&◌, nat_lt, nat_le, refl, sym, ap, ap₂, ◌∙◌, subst, arith, ◌⊎◌, inl, inr, slice_get, option_map, take, drop, replicate, unwrap_or, if◌then◌else◌, append_assoc, leb-true, le-leb}
+use Rattle.std.proofs.Common.{◌≡◌, ℕ, zero, suc, ◌+◌, ◌*◌, ◌≤◌, List, [], ◌∷◌, ◌++◌, length, map, Option, Some, None, Bool, true, false, ◌&&◌, nat_lt, nat_le, refl, sym, ap, ap₂, ◌∙◌, subst, arith, ◌⊎◌, inl, inr, slice_get, option_map, take, drop, replicate, unwrap_or, if◌then◌else◌, append_assoc, leb-true, le-leb}
 use Rattle.wasm_syntax.specs.declared.value.Value.{Value}
 use Rattle.wasm_syntax.specs.declared.value.Value.TheVariants as values
 use Rattle.wasm_syntax.specs.declared.module.ModuleParts.{ModuleParts as Module}
@@ -10,11 +10,11 @@ use Rattle.rewrite_bodies.specs.Numbering.{import_count, mapped, shown, doubles,
 use Rattle.rewrite_bodies.proofs.Doubled.{over_len, AllTrue, start_long, segments_fit}
 use Rattle.linear_memory.specs.Memory.{Memory}
 use Rattle.std.proofs.lemmas.List.{length-map, length-replicate, map-append}
-use Rattle.rewrite_bodies.specs.calls.Agreement.{flagged}
+use Rattle.rewrite_bodies.specs.calls.Agreement.{byte_count, flagged}
 use Rattle.wasm_syntax.specs.Run.{start_table, engine, i32_or_zero, first_false, table_min, empty_memory, memory_bytes, globals_at_start, element_at, data_at, element_fits, data_fits, start_memory, start_world, by_data, by_element, cause_of_segments}
 use Rattle.std.specs.Prelude.{flat_map, bytes_eq, fold, find, cond}
 use Rattle.rewrite_modules.specs.Collector.{memory_export}
-use Rattle.rewrite_modules.specs.calls.Instrument.{number_init, shown_element, new_module, new_exports, new_index}
+use Rattle.rewrite_modules.specs.calls.Instrument.{number_init, memory_min, shown_element, new_module, new_exports, new_index}
 use Rattle.rewrite_modules.specs.Interface.{doubled}
 use Rattle.wasm_syntax.specs.declared.instruction.Op.{Op}
 use Rattle.wasm_syntax.specs.declared.instruction.Instr.{Instr}
@@ -28,25 +28,26 @@ use Rattle.rewrite_modules.proofs.Links.{get_right}
 use Rattle.pm_text.proofs.Lists.{get_front}
 use Rattle.wasm_syntax.proofs.Classes.{Constant, holds_value, reads_global, not_constant, constant_of}
 
--- ---- constant expressions with one more global, a zero
+-- ---- constant expressions with two more globals, a zero and an i64
 
-zero_more : (gs : List Value) (x : ℕ) → i32_or_zero (slice_get (gs ++ values.I32 0 ∷ []) x) ≡ i32_or_zero (slice_get gs x)
-zero_more [] zero = refl
-zero_more [] (suc x) = refl
-zero_more (g ∷ gs) zero = refl
-zero_more (g ∷ gs) (suc x) = zero_more gs x
+zero_more : (gs : List Value) (n x : ℕ) → i32_or_zero (slice_get (gs ++ values.I32 0 ∷ values.I64 n ∷ []) x) ≡ i32_or_zero (slice_get gs x)
+zero_more [] n zero = refl
+zero_more [] n (suc zero) = refl
+zero_more [] n (suc (suc x)) = refl
+zero_more (g ∷ gs) n zero = refl
+zero_more (g ∷ gs) n (suc x) = zero_more gs n x
 
-code_as : (gs : List Value) (i : Instr) → Constant i → i32_or_zero (const_code (gs ++ values.I32 0 ∷ []) i) ≡ i32_or_zero (const_code gs i)
-code_as gs i (holds_value v) = refl
-code_as gs i (reads_global x) = zero_more gs x
-code_as gs i (not_constant none never) = ap i32_or_zero (none (gs ++ values.I32 0 ∷ []) ∙ sym (none gs))
+code_as : (gs : List Value) (n : ℕ) (i : Instr) → Constant i → i32_or_zero (const_code (gs ++ values.I32 0 ∷ values.I64 n ∷ []) i) ≡ i32_or_zero (const_code gs i)
+code_as gs n i (holds_value v) = refl
+code_as gs n i (reads_global x) = zero_more gs n x
+code_as gs n i (not_constant none never) = ap i32_or_zero (none (gs ++ values.I32 0 ∷ values.I64 n ∷ []) ∙ sym (none gs))
 
-code_more : (gs : List Value) (i : Instr) → i32_or_zero (const_code (gs ++ values.I32 0 ∷ []) i) ≡ i32_or_zero (const_code gs i)
-code_more gs i = code_as gs i (constant_of i)
+code_more : (gs : List Value) (n : ℕ) (i : Instr) → i32_or_zero (const_code (gs ++ values.I32 0 ∷ values.I64 n ∷ []) i) ≡ i32_or_zero (const_code gs i)
+code_more gs n i = code_as gs n i (constant_of i)
 
-const_more : (gs : List Value) (ops : List Op) → i32_or_zero (const_value (gs ++ values.I32 0 ∷ []) ops) ≡ i32_or_zero (const_value gs ops)
-const_more gs [] = refl
-const_more gs (o ∷ os) = code_more gs o.code
+const_more : (gs : List Value) (n : ℕ) (ops : List Op) → i32_or_zero (const_value (gs ++ values.I32 0 ∷ values.I64 n ∷ []) ops) ≡ i32_or_zero (const_value gs ops)
+const_more gs n [] = refl
+const_more gs n (o ∷ os) = code_more gs n o.code
 
 -- ---- lists under a function
 
@@ -131,15 +132,19 @@ module _ (p : Program) where
   abbrev size : ℕ
   size = table_min m.tables
 
-  globals_start : globals_at_start m' ≡ globals_at_start m ++ values.I32 0 ∷ []
+  -- the bytes of the memory at first
+  abbrev bytes : ℕ
+  bytes = 65536 * memory_min m.memories
+
+  globals_start : globals_at_start m' ≡ globals_at_start m ++ values.I32 0 ∷ values.I64 bytes ∷ []
   globals_start = map-append (λ g. unwrap_or (const_value [] g.init.ops) (zero_of g.vtype)) m.globals _
 
   -- an offset of the module is the same in both
   offset_same : (b : Body) → i32_or_zero (const_value (globals_at_start m') b.ops) ≡ i32_or_zero (const_value (globals_at_start m) b.ops)
-  offset_same b = ap (λ gs. i32_or_zero (const_value gs b.ops)) globals_start ∙ const_more (globals_at_start m) b.ops
+  offset_same b = ap (λ gs. i32_or_zero (const_value gs b.ops)) globals_start ∙ const_more (globals_at_start m) bytes b.ops
 
   data_same : (s : DataSeg) → data_at m' s ≡ data_at m s
-  data_same s = ap (λ gs. i32_or_zero (const_value gs s.offset.ops)) globals_start ∙ const_more (globals_at_start m) s.offset.ops
+  data_same s = ap (λ gs. i32_or_zero (const_value gs s.offset.ops)) globals_start ∙ const_more (globals_at_start m) bytes s.offset.ops
 
   some_map : (h : ℕ → ℕ) (fs : List ℕ) → map Some (map h fs) ≡ map (go h) (map Some fs)
   some_map h [] = refl
@@ -224,8 +229,10 @@ module _ (p : Program) where
   memory_start : start_memory m' ≡ start_memory m
   memory_start = memory_option (empty_memory m.memories)
 
-  pub world_start : (d : ℕ) (replies : List Reply) → start_world m' replies ≡ flagged (engine p false d) (start_world m replies) (values.I32 0)
-  world_start d replies = λ i. record { globals = globals_start i; memory = memory_start i; table = table_start i; replies = replies; served = [] }
+  pub world_start : (d : ℕ) (replies : List Reply) → byte_count (start_memory m) ≡ bytes → start_world m' replies ≡ flagged (engine p false d) (start_world m replies) (values.I32 0)
+  world_start d replies measured =
+      let all : globals_at_start m' ≡ globals_at_start m ++ values.I32 0 ∷ values.I64 (byte_count (start_memory m)) ∷ [] = globals_start ∙ ap (λ (n : ℕ). globals_at_start m ++ values.I32 0 ∷ values.I64 n ∷ []) (sym measured) in
+      λ i. record { globals = all i; memory = memory_start i; table = table_start i; replies = replies; served = [] }
 
   -- ---- the segments fit in both
 

@@ -35,5 +35,5 @@ starts_by_slots p given few replies d n s d1 d2 c e n8 =
     let bound = roomy_more p fit d deep d2 n en.0 en.2 in
     let same = twice n 1 ((greatest p).0 + (greatest p).1 + length p.module_.globals) in
     let there : Alike (start_run M s replies n) (start_run M' x.0 replies en.0) =
-    subst (λ (z : World). Alike (start_run M s replies n) (ran_to false (run_function M' en.0 x.0 (function_at (instrument p) x.0) [] z []).what (run_function M' en.0 x.0 (function_at (instrument p) x.0) [] z []).left)) (sym (world_start p d replies)) en.3.alike in
+    subst (λ (z : World). Alike (start_run M s replies n) (ran_to false (run_function M' en.0 x.0 (function_at (instrument p) x.0) [] z []).what (run_function M' en.0 x.0 (function_at (instrument p) x.0) [] z []).left)) (sym (world_start p d replies (fit.measured c))) en.3.alike in
     (x.0, segments_same p ∙ c, x.1, en.0, en.1, omega (arith, bound, same), there)

@@ -11,11 +11,11 @@ use Rattle.rewrite_bodies.specs.calls.Rewrite.{body}
 use Rattle.linear_memory.specs.Memory.{Memory}
 use Rattle.std.proofs.lemmas.List.{length-map, length-replicate}
 use Rattle.wasm_syntax.specs.declared.parts.ElementSeg.{ElementSeg}
-use Rattle.rewrite_bodies.specs.calls.Agreement.{Has, MemoryFits, WorldFits}
+use Rattle.rewrite_bodies.specs.calls.Agreement.{Has, MemoryFits, byte_count, WorldFits}
 use Rattle.rewrite_bodies.specs.calls.Known.{HasLeast}
 use Rattle.std.proofs.lemmas.Bool.{eqb-true, eq-eqb}
 use Rattle.std.specs.Prelude.{flat_map, fold, min}
-use Rattle.rewrite_modules.specs.calls.Instrument.{instrument, new_module}
+use Rattle.rewrite_modules.specs.calls.Instrument.{memory_min, instrument, new_module}
 use Rattle.rewrite_modules.proofs.SlotMultiple.{slot_multiple}
 use Rattle.rewrite_modules.proofs.Bounds.{Static}
 use Rattle.std.specs.List.{AllByRecursion}
@@ -161,6 +161,10 @@ module _ (m : Module) where
   least_by [] e a = tt
   least_by (l ∷ ls) e a = let x = start_bytes l ls e a in omega (arith, x.0)
 
+  length_by : (ls : List Limits) → m.memories ≡ ls → AllTrue (map (data_fits m) m.segments) → byte_count (start_of (empty_memory ls)) ≡ 65536 * memory_min ls
+  length_by [] e a = refl
+  length_by (l ∷ ls) e a = (start_bytes l ls e a).0
+
 -- ---- what validity, the limits and the collisions give
 
 same_count : (bodies : List Body) (trees : List Tree) → AllWrite bodies trees → length trees ≡ length bodies
@@ -198,6 +202,7 @@ fits_given p g few =
       globals = (s.world []).globals;
       memory = λ e. memory_by p.module_ p.module_.memories refl (few_pages p.module_ p.module_.memories g.pages) (all_true 0 _ (segments_true p.module_ (first_false 0 (map (element_fits p.module_) p.module_.elements)) e));
       least = λ e. least_by p.module_ p.module_.memories refl (all_true 0 _ (segments_true p.module_ (first_false 0 (map (element_fits p.module_) p.module_.elements)) e));
+      measured = λ e. length_by p.module_ p.module_.memories refl (all_true 0 _ (segments_true p.module_ (first_false 0 (map (element_fits p.module_) p.module_.elements)) e));
       table = λ e. first_is_start p.module_ (all_true 0 _ (elements_true p.module_ (first_false 0 (map (element_fits p.module_) p.module_.elements)) e));
       exported = s.exported;
       listed = λ f e. has_type p.module_ g.valid f (listed_below p.module_ g.valid f e);

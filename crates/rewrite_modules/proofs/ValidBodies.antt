@@ -7,7 +7,6 @@ use Rattle.wasm_syntax.specs.declared.value.ValType.TheVariants.{I32}
 use Rattle.wasm_syntax.specs.declared.instruction.Basic.TheVariants.{LocalGet, GlobalGet, GlobalSet}
 use Rattle.wasm_syntax.specs.declared.parts.FuncType.{FuncType}
 use Rattle.wasm_syntax.specs.declared.parts.Body.{Body}
-use Rattle.wasm_syntax.specs.declared.parts.Global.{Global}
 use Rattle.wasm_syntax.specs.declared.parts.LocalGroup.{LocalGroup}
 use Rattle.wasm_syntax.specs.declared.module.ModuleParts.{ModuleParts as Module}
 use Rattle.wasm_syntax.specs.Tree.{Unreachable, BrTable, Return, Nodes, stop, basic, jump, block, loop, choose, Tree, IsTree, code_of}
@@ -18,13 +17,13 @@ use Rattle.wasm_syntax.specs.Sizes.{parameter_count}
 use Rattle.rewrite_bodies.specs.Numbering.{mapped, value_import, frame_import, flag_of, value_type, frame_type, doubles}
 use Rattle.rewrite_bodies.specs.calls.Slots.{Ctx, added, groups, ctx_of, slots_of}
 use Rattle.rewrite_bodies.specs.calls.Pieces.{i32, call, tree_of}
-use Rattle.rewrite_bodies.specs.calls.Guards.{entry_label, type_label, says, helper, helper_type, first_table}
+use Rattle.rewrite_bodies.specs.calls.Guards.{length_of, renew, entry_label, type_label, says, helper, helper_type, first_table}
 use Rattle.rewrite_bodies.specs.calls.Typed.{in_body, Offers, original}
-use Rattle.rewrite_bodies.proofs.TypedPieces.{Ok, ok_basic, ok_const, ok_if, ok_call, at_labels}
+use Rattle.rewrite_bodies.proofs.TypedPieces.{Ok, ok_basic, ok_const, ok_if, ok_call, ok_renewed, at_labels}
 use Rattle.rewrite_bodies.proofs.TypedNodes.{body_ok}
 use Rattle.wasm_laws.proofs.Safe.{Typed, one_result}
 use Rattle.rewrite_modules.specs.calls.Bare.{bare_nodes, bare_tree}
-use Rattle.rewrite_modules.specs.calls.Instrument.{zero_init, new_module, new_nodes, new_body}
+use Rattle.rewrite_modules.specs.calls.Instrument.{flag_global, length_global, new_module, new_nodes, new_body}
 use Rattle.rewrite_modules.specs.Interface.{doubled}
 use Rattle.rewrite_modules.specs.calls.FlatCode.{body_of}
 use Rattle.rewrite_modules.specs.calls.Wrappers.{get_all, tell_globals, lower_flag, end_of_dump, after_wrapped, wrapper_nodes, wrapper}
@@ -114,11 +113,11 @@ module _ (p : Program) (ready : Ready p) (typed : Typed p) where
   abbrev c1 : List ValType → List ValType → List (List ValType) → Context
   c1 locals returns labels = at_labels m' locals returns labels
 
-  abbrev flag_global : Global
-  flag_global = record { vtype = I32; mutable = true; init = zero_init }
-
   flag_is : slice_get m'.globals (flag_of m) ≡ Some flag_global
   flag_is = get_right m.globals _ 0 (length m.globals) (omega arith)
+
+  length_is : slice_get m'.globals (length_of m) ≡ Some (length_global m)
+  length_is = get_right m.globals _ 1 (suc (length m.globals)) (omega arith)
 
   tell_globals_ok : (locals returns : List ValType) (labels : List (List ValType)) (z s : List ValType) (done todo : List _) (k : Nodes) → m.globals ≡ done ++ todo → Ok (c1 locals returns labels) z s k → Ok (c1 locals returns labels) z s (tell_globals m (length done) (map (λ g. g.vtype) todo) k)
   tell_globals_ok locals returns labels z s done [] k e h = h
@@ -149,7 +148,8 @@ module _ (p : Program) (ready : Ready p) (typed : Typed p) where
       let gets = get_all_ok m' locals returns labels returns [] [] type.params (call (mapped m f) (after_wrapped m)) (append-nil type.params) called in
       let set_e : arrow (c1 locals returns labels) I32 (GlobalSet (flag_of m)) ≡ Some (I32 ∷ [] ⇒ []) = rw flag_is refl in
       let n : parameter_count (type_at m f) ≡ length type.params = ap parameter_count at in
-      let all : Ok (c1 locals returns labels) returns [] (wrapper_nodes m f (length type.params)) = ok_const (i32 0) (ok_basic [] (GlobalSet (flag_of m)) I32 (I32 ∷ [] ⇒ []) set_e gets) in
+      let renews : Ok (c1 locals returns labels) returns [] (renew m (get_all 0 (length type.params) (call (mapped m f) (after_wrapped m)))) = ok_renewed m (length_global m) m.memories refl length_is refl refl gets in
+      let all : Ok (c1 locals returns labels) returns [] (wrapper_nodes m f (length type.params)) = ok_const (i32 0) (ok_basic [] (GlobalSet (flag_of m)) I32 (I32 ∷ [] ⇒ []) set_e renews) in
       (subst (λ x. Ok (c1 locals returns labels) returns [] (wrapper_nodes m f x)) (sym n) all).typed
 
   pub wrapper_typed : (f : ℕ) (type : FuncType) → type_at m f ≡ Some type → IsBody m' type (body_of [] (wrapper m f)) (code_of (body_of [] (wrapper m f)).targets (body_of [] (wrapper m f)).ops)
@@ -213,6 +213,10 @@ module _ (p : Program) (ready : Ready p) (typed : Typed p) where
       flag_there = flag_is;
       flag_type = refl;
       flag_mutable = refl;
+      length_ = length_global m;
+      length_there = length_is;
+      length_type = refl;
+      length_mutable = refl;
       memories = refl;
       tables = tables_many p;
       types = λ t type e. get_front m.types _ t type e;

@@ -29,7 +29,7 @@ use Rattle.wasm_laws.proofs.Lists.{all_of, at_of, there_at, all_append, all_map}
 use Rattle.wasm_laws.proofs.Safe.{Typed}
 use Rattle.wasm_laws.proofs.Validity.{typed_functions, has_type, start_type}
 use Rattle.rewrite_modules.specs.Collector.{memory_export}
-use Rattle.rewrite_modules.specs.calls.Instrument.{each, number_init, shown_element, inner_offset, inner_element, shown_elements, new_module, instrument, new_body, new_index, new_exports, new_start, wrapper_type, zero_init}
+use Rattle.rewrite_modules.specs.calls.Instrument.{each, flag_global, length_global, number_init, shown_element, inner_offset, inner_element, shown_elements, new_module, instrument, new_body, new_index, new_exports, new_start, wrapper_type}
 use Rattle.rewrite_modules.specs.Interface.{doubled}
 use Rattle.rewrite_modules.specs.calls.FlatCode.{body_of}
 use Rattle.rewrite_modules.specs.calls.Wrappers.{wrapper}
@@ -180,7 +180,7 @@ module _ (p : Program) (ready : Ready p) (valid : Valid p.module_) (typed : Type
       (all_map (DeclarationFine m') (λ u. nt + 3) (helped p) (all_any (λ u. nt + 3 < length m'.types) (helped p) (λ u. omega (arith, types_many)))))
 
   globals_fine : AllByRecursion GlobalFine m'.globals
-  globals_fine = all_append GlobalFine m.globals _ (all_of GlobalFine m.globals (λ i. valid (places.GlobalAt i))) ((_, refl, refl), tt)
+  globals_fine = all_append GlobalFine m.globals _ (all_of GlobalFine m.globals (λ i. valid (places.GlobalAt i))) ((_, refl, refl), ((_, refl, refl), tt))
 
   -- ---- segments
 
@@ -298,7 +298,7 @@ module _ (p : Program) (ready : Ready p) (valid : Valid p.module_) (typed : Type
       by_kind kinds.Function index lt room = by_test (nat_lt index ic) index lt room (λ q. ltb-true index ic q)
       by_kind kinds.Table index lt room = omega (arith, lt, tables_many p)
       by_kind kinds.Memory index lt room = lt
-      by_kind kinds.Global index lt room = omega (arith, lt, length-append m.globals (record { vtype = I32; mutable = true; init = zero_init } ∷ []))
+      by_kind kinds.Global index lt room = omega (arith, lt, length-append m.globals (flag_global ∷ length_global m ∷ []))
 
   export_fine : (i : ℕ) (e : Export) → slice_get m.exports i ≡ Some e → ExportFine m i e
   export_fine i e at = there_at (ExportFine m i) m.exports i e (valid (places.ExportAt i)) at

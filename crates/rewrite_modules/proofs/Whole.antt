@@ -19,18 +19,20 @@ use Rattle.wasm_syntax.specs.Machine.{returns, Config, label, frame, config, Eng
 use Rattle.rewrite_bodies.specs.calls.Slots.{Ctx, added, ctx_of}
 use Rattle.rewrite_bodies.specs.Numbering.{mapped, frame_import, flag_of, global_types}
 use Rattle.rewrite_bodies.specs.calls.Pieces.{const, i32, call, if_any, tree_of}
-use Rattle.rewrite_bodies.specs.calls.Rewrite.{body}
+use Rattle.rewrite_bodies.specs.calls.Rewrite.{passes, body}
+use Rattle.rewrite_bodies.specs.calls.Guards.{renew}
 use Rattle.std.proofs.lemmas.List.{length-map, reverse-append, reverse-reverse, length-reverse}
 use Rattle.rewrite_bodies.specs.calls.Steps.{went, run, Gets, To, Shell, st}
 use Rattle.rewrite_bodies.proofs.Run.{still, one_step, seq, weaken, push_to, get_to}
-use Rattle.rewrite_bodies.specs.calls.Agreement.{Wit, WorldFits, FitsConfig, Wrap, w_frame, zero_vs, last_of, flagged, image}
+use Rattle.rewrite_bodies.specs.calls.Agreement.{Wit, byte_count, WorldFits, FitsConfig, Wrap, w_frame, zero_vs, last_of, flagged, image}
 use Rattle.rewrite_bodies.proofs.Parts.{step_plain}
+use Rattle.rewrite_bodies.proofs.Passing.{loosened}
 use Rattle.dump_write.specs.Collected.{value_call}
 use Rattle.rewrite_bodies.specs.calls.Telling.{tell_locals, tell_frames, collected}
 use Rattle.rewrite_bodies.specs.calls.Standing.{Linked, Speaks, Stands}
 use Rattle.rewrite_bodies.proofs.Sim.{len_of, wit, armed, if_zero_to, if_up_to}
-use Rattle.rewrite_bodies.proofs.Control.{get_last}
-use Rattle.rewrite_bodies.proofs.Unwind.{value_to, entry_to, put_last, get_middle}
+use Rattle.rewrite_bodies.proofs.Measures.{get_first, put_first, renew_to}
+use Rattle.rewrite_bodies.proofs.Unwind.{value_to, entry_to, get_middle}
 use Rattle.rewrite_bodies.proofs.Calls.{types-locals, new_locals}
 use Rattle.wasm_syntax.specs.Run.{Ended, ended, run_on, run_steps}
 use Rattle.rewrite_modules.specs.calls.Wrappers.{get_all, tell_globals, end_of_dump, after_wrapped, wrapper_nodes}
@@ -120,13 +122,13 @@ module _ (M' : Engine) where
       weaken M' (seq M' (get_to M' (length done) v (get_here done todo v)) (seq M' {y = st X (done ++ v ∷ todo) (v ∷ acc) (get_all (suc (length done)) (length todo) k) g co} (still M' _) rest)) (omega arith) (omega arith)
 
   module _ (m : Module) (sp : Speaks M' m) where
-    globals_to : {X : Shell} {tl : List Value} {co : List CollectorCall} (G : World) (todo done : List Value) (b : Value) (k : Nodes) → G.globals ≡ (done ++ todo) ++ b ∷ [] → To M' 0 (2 * length todo) (st X tl [] (tell_globals m (length done) (types todo) k) G co) (st X tl [] k G (tell_locals todo co))
-    globals_to G [] done b k e = weaken M' (still M' _) (omega arith) (omega arith)
-    globals_to {X = X} {tl = tl} {co = co} G (v ∷ todo) done b k e =
+    globals_to : {X : Shell} {tl : List Value} {co : List CollectorCall} (G : World) (todo done bs : List Value) (k : Nodes) → G.globals ≡ (done ++ todo) ++ bs → To M' 0 (2 * length todo) (st X tl [] (tell_globals m (length done) (types todo) k) G co) (st X tl [] k G (tell_locals todo co))
+    globals_to G [] done bs k e = weaken M' (still M' _) (omega arith) (omega arith)
+    globals_to {X = X} {tl = tl} {co = co} G (v ∷ todo) done bs k e =
         let n : length (done ++ v ∷ []) ≡ suc (length done) = omega (arith, length-append done (v ∷ [])) in
         let rest : To M' 0 (2 * length todo) (st X tl [] (tell_globals m (suc (length done)) (types todo) k) G (value_call v ∷ co)) (st X tl [] k G (tell_locals todo (value_call v ∷ co))) =
-        rw n at (globals_to {X = X} {tl = tl} {co = value_call v ∷ co} G todo (done ++ v ∷ []) b k (e ∙ ap (λ z. z ++ b ∷ []) (sym (append_assoc done (v ∷ []) todo)))) in
-        weaken M' (seq M' (step_plain M' (GlobalGet (length done)) [] [] tl G (v ∷ []) (v ∷ []) refl (rw (e, get_middle done todo (b ∷ []) v) refl) refl) (seq M' (value_to M' m sp (type_of v) v refl) rest)) (omega arith) (omega arith)
+        rw n at (globals_to {X = X} {tl = tl} {co = value_call v ∷ co} G todo (done ++ v ∷ []) bs k (e ∙ ap (λ z. z ++ bs) (sym (append_assoc done (v ∷ []) todo)))) in
+        weaken M' (seq M' (step_plain M' (GlobalGet (length done)) [] [] tl G (v ∷ []) (v ∷ []) refl (rw (e, get_middle done todo bs v) refl) refl) (seq M' (value_to M' m sp (type_of v) v refl) rest)) (omega arith) (omega arith)
 
 module _ (M M' : Engine) (E : ℕ) (gl : List ValType) (S : Stands M M' E gl) (gm : gl ≡ global_types M.program.module_) where
   abbrev pub m : Module
@@ -142,6 +144,7 @@ module _ (M M' : Engine) (E : ℕ) (gl : List ValType) (S : Stands M M' E gl) (g
       let X1 = armed X stop zs in
       let g1 = flagged M g (values.I32 1) in
       let n = length m.globals in
+      let bytes = values.I64 (byte_count g.memory) ∷ [] in
       let fl = flag_at g wf in
       let ty = wf.globals ∙ gm in
       let g0 = flagged M g (values.I32 0) in
@@ -149,14 +152,14 @@ module _ (M M' : Engine) (E : ℕ) (gl : List ValType) (S : Stands M M' E gl) (g
       let k4 = call (frame_import m) (const (i32 0) k5) in
       let k3 = const (i32 255) (const (i32 0) (const (i32 0) (const (i32 n) k4))) in
       let co1 = tell_locals g.globals co in
-      let s1 : To M' 1 1 (st X W.locals zs (after_wrapped m) g1 co) (st X W.locals (values.I32 1 ∷ zs) (if_any (end_of_dump m) stop) g1 co) = step_plain M' (GlobalGet (flag_of m)) [] zs W.locals g1 (values.I32 1 ∷ []) (values.I32 1 ∷ zs) refl (rw (get_last g.globals (flag_of m) (values.I32 1) fl) refl) refl in
+      let s1 : To M' 1 1 (st X W.locals zs (after_wrapped m) g1 co) (st X W.locals (values.I32 1 ∷ zs) (if_any (end_of_dump m) stop) g1 co) = step_plain M' (GlobalGet (flag_of m)) [] zs W.locals g1 (values.I32 1 ∷ []) (values.I32 1 ∷ zs) refl (rw (get_first g.globals (flag_of m) (values.I32 1) bytes fl) refl) refl in
       let s3 : To M' 0 (2 * length g.globals) (st X1 W.locals [] (end_of_dump m) g1 co) (st X1 W.locals [] k3 g1 co1) =
-      subst (λ z. To M' 0 (2 * length g.globals) (st X1 W.locals [] (tell_globals m 0 z k3) g1 co) (st X1 W.locals [] k3 g1 co1)) ty (globals_to M' m S.speaks g1 g.globals [] (values.I32 1) k3 refl) in
+      subst (λ z. To M' 0 (2 * length g.globals) (st X1 W.locals [] (tell_globals m 0 z k3) g1 co) (st X1 W.locals [] k3 g1 co1)) ty (globals_to M' m S.speaks g1 g.globals [] (values.I32 1 ∷ bytes) k3 refl) in
       let co2 = collector_calls.Frame 255 0 0 n ∷ co1 in
       let last = st X1 W.locals [] (jump 0 Unreachable stop) g0 co2 in
       let s4 : To M' 5 5 (st X1 W.locals [] k3 g1 co1) (st X1 W.locals [] (const (i32 0) k5) g1 co2) = seq M' (push_to M' (values.I32 255)) (seq M' (push_to M' (values.I32 0)) (seq M' (push_to M' (values.I32 0)) (seq M' (push_to M' (values.I32 n)) (entry_to M' m S.speaks 255 0 0 n)))) in
       let s5 : To M' 1 1 (st X1 W.locals [] (const (i32 0) k5) g1 co2) (st X1 W.locals (values.I32 0 ∷ []) k5 g1 co2) = push_to M' (values.I32 0) in
-      let s6 : To M' 1 1 (st X1 W.locals (values.I32 0 ∷ []) k5 g1 co2) last = step_plain M' (GlobalSet (flag_of m)) (values.I32 0 ∷ []) [] W.locals g0 [] [] refl (rw (get_last g.globals (flag_of m) (values.I32 1) fl, put_last g.globals (flag_of m) (values.I32 1) (values.I32 0) fl) refl) refl in
+      let s6 : To M' 1 1 (st X1 W.locals (values.I32 0 ∷ []) k5 g1 co2) last = step_plain M' (GlobalSet (flag_of m)) (values.I32 0 ∷ []) [] W.locals g0 [] [] refl (rw (get_first g.globals (flag_of m) (values.I32 1) bytes fl, put_first g.globals (flag_of m) (values.I32 1) (values.I32 0) bytes fl) refl) refl in
       let s7 : Gets M' 1 1 last (traps 1 last) = one_step M' _ _ refl in
       let lg : length g.globals ≡ length gl = sym (len_of g.globals gl wf.globals) in
       (last, refl, ap (λ z. collector_calls.Frame 255 0 0 z ∷ co1) fl, rw wr (weaken M' (seq M' s1 (seq M' (if_up_to M' 0) (seq M' s3 (seq M' s4 (seq M' s5 (seq M' s6 s7)))))) (omega arith) (omega (arith, lg))))
@@ -166,7 +169,7 @@ module _ (M M' : Engine) (E : ℕ) (gl : List ValType) (S : Stands M M' E gl) (g
   good_end W vs g co wr wf x =
       let X : Shell = record { idx = W.idx; result = W.result; kind = returns W.result; below = []; frames = [] } in
       let g0 = flagged M g (values.I32 0) in
-      let s1 : To M' 1 1 (st X W.locals vs (after_wrapped m) g0 co) (st X W.locals (values.I32 0 ∷ vs) (if_any (end_of_dump m) stop) g0 co) = step_plain M' (GlobalGet (flag_of m)) [] vs W.locals g0 (values.I32 0 ∷ []) (values.I32 0 ∷ vs) refl (rw (get_last g.globals (flag_of m) (values.I32 0) (flag_at g wf)) refl) refl in
+      let s1 : To M' 1 1 (st X W.locals vs (after_wrapped m) g0 co) (st X W.locals (values.I32 0 ∷ vs) (if_any (end_of_dump m) stop) g0 co) = step_plain M' (GlobalGet (flag_of m)) [] vs W.locals g0 (values.I32 0 ∷ []) (values.I32 0 ∷ vs) refl (rw (get_first g.globals (flag_of m) (values.I32 0) (values.I64 (byte_count g.memory) ∷ []) (flag_at g wf)) refl) refl in
       let s3 : Gets M' 1 1 (st X W.locals vs stop g0 co) (ends g0 vs co) = one_step M' _ _ (rw x refl) in
       rw (wr, append-nil) (weaken M' (seq M' s1 (seq M' (if_zero_to M') s3)) (omega arith) (omega arith))
 
@@ -208,21 +211,24 @@ module _ (M M' : Engine) (E : ℕ) (gl : List ValType) (S : Stands M M' E gl) (g
     target = config (entered wi wb wtree type args ∷ []) (flagged M g (values.I32 up)) []
 
     pub fits : FitsConfig M E gl W.result source (w0 ∷ [])
-    fits = (wf, (record { size = types-locals args type.params (declared_locals b.groups) ty; room = zero_types (added k.slots); idx = refl; result = refl; funcs = refl; base = refl; helpers = refl; flag = sym gm; small = k.small; exposed = ap (λ q. exposed_in m.memories (nodes_of q)) (sym at); narrow = k.narrow; labels = (tt, tt, room_landed C (exposed_in m.memories tree.nodes) (landings_from (landed C (exposed_in m.memories tree.nodes) []) [] tree.nodes []) [] tree.nodes k.room, refl, tt); no_kind = tt }, refl), begins_known M f b tree type args g [] at wf.least)
+    fits = (wf, (record { size = types-locals args type.params (declared_locals b.groups) ty; room = zero_types (added k.slots); idx = refl; result = refl; funcs = refl; base = refl; helpers = refl; flag = sym gm; small = k.small; exposed = ap (λ q. exposed_in m.memories (nodes_of q)) (sym at); narrow = k.narrow; labels = (loosened (passes D tree.nodes) (args ++ zeros (declared_locals b.groups)) (zeros (added k.slots)) [] [] [] tt, tt, room_landed C (exposed_in m.memories tree.nodes) (landings_from (landed C (exposed_in m.memories tree.nodes) []) [] tree.nodes []) [] tree.nodes k.room, refl, tt); no_kind = tt }, refl), begins_known M f b tree type args g [] at wf.least)
 
-    pub begin : To M' 1 (length type.params + 33) target (image M W source (w0 ∷ []))
+    pub begin : To M' 1 (length type.params + 38) target (image M W source (w0 ∷ []))
     begin =
         let X : Shell = record { idx = wi; result = result_of type; kind = returns (result_of type); below = []; frames = [] } in
         let n = length type.params in
         let gu = flagged M g (values.I32 up) in
         let g0 = flagged M g (values.I32 0) in
         let kc = call (mapped m f) (after_wrapped m) in
+        let kg = get_all 0 (length type.params) kc in
+        let bytes = values.I64 (byte_count g.memory) ∷ [] in
         let ex = zeros (added k.slots) in
         let len : n ≡ length args = len_of args type.params ty in
         let fl = flag_at g wf in
         let noted : entered wi wb wtree type args ≡ frame wi (result_of type) 0 args (label [] wtree.nodes 0 (returns (result_of type)) ∷ []) = ap (λ z. frame wi (result_of type) 0 z (label [] wtree.nodes 0 (returns (result_of type)) ∷ [])) (ap (λ z. args ++ zeros z) none ∙ append-nil args) in
-        let s1 : To M' 1 1 (st X args [] wtree.nodes gu []) (st X args (values.I32 0 ∷ []) (basic 0 (GlobalSet (flag_of m)) (get_all 0 n kc)) gu []) = push_to M' (values.I32 0) in
-        let s2 : To M' 1 1 (st X args (values.I32 0 ∷ []) (basic 0 (GlobalSet (flag_of m)) (get_all 0 n kc)) gu []) (st X args [] (get_all 0 n kc) g0 []) = step_plain M' (GlobalSet (flag_of m)) (values.I32 0 ∷ []) [] args g0 [] [] refl (rw (get_last g.globals (flag_of m) (values.I32 up) fl, put_last g.globals (flag_of m) (values.I32 up) (values.I32 0) fl) refl) refl in
+        let s1 : To M' 1 1 (st X args [] wtree.nodes gu []) (st X args (values.I32 0 ∷ []) (basic 0 (GlobalSet (flag_of m)) (renew m kg)) gu []) = push_to M' (values.I32 0) in
+        let s2 : To M' 1 1 (st X args (values.I32 0 ∷ []) (basic 0 (GlobalSet (flag_of m)) (renew m kg)) gu []) (st X args [] (renew m kg) g0 []) = step_plain M' (GlobalSet (flag_of m)) (values.I32 0 ∷ []) [] args g0 [] [] refl (rw (get_first g.globals (flag_of m) (values.I32 up) bytes fl, put_first g.globals (flag_of m) (values.I32 up) (values.I32 0) bytes fl) refl) refl in
+        let s2b : To M' 0 5 (st X args [] (renew m kg) g0 []) (st X args [] kg g0 []) = renew_to M' M m X args [] kg g [] (values.I32 0) fl m.memories wf.least wf.memory in
         let s3 : To M' 0 n (st X args [] (get_all 0 n kc) g0 []) (st X args (reverse args) kc g0 []) =
         subst₂ (λ n a. To M' 0 n (st X args [] (get_all 0 n kc) g0 []) (st X args a kc g0 [])) (sym len) (back_is args [] ∙ append-nil (reverse args)) (gets_to M' args [] [] kc) in
         let caller = frame wi (result_of type) 0 args (label [] (after_wrapped m) 0 (returns (result_of type)) ∷ []) in
@@ -234,7 +240,7 @@ module _ (M M' : Engine) (E : ℕ) (gl : List ValType) (S : Stands M M' E gl) (g
         let locals : args ++ zeros (declared_locals k.new.groups) ≡ (args ++ zeros (declared_locals b.groups)) ++ ex = new_locals args (declared_locals k.new.groups) (declared_locals b.groups) (added k.slots) k.locals in
         let s4 : To M' 1 1 (st X args (reverse args) kc g0 []) mid = one_step M' _ _ (rw (k.target, whole, twice, tys, depth, locals) refl) in
         let s5 : To M' 0 25 mid (image M W source (w0 ∷ [])) = into_body M' (mapped m f) (result_of type) ((args ++ zeros (declared_locals b.groups)) ++ ex) (caller ∷ []) g0 [] D tree.nodes (few_landings (landed C (exposed_in m.memories tree.nodes) []) [] tree.nodes [] (omega arith)) in
-        subst (λ z. To M' 1 (length type.params + 33) (config (z ∷ []) gu []) (image M W source (w0 ∷ []))) (sym noted) (weaken M' (seq M' s1 (seq M' s2 (seq M' s3 (seq M' s4 s5)))) (omega arith) (omega arith))
+        subst (λ z. To M' 1 (length type.params + 38) (config (z ∷ []) gu []) (image M W source (w0 ∷ []))) (sym noted) (weaken M' (seq M' s1 (seq M' s2 (seq M' s2b (seq M' s3 (seq M' s4 s5))))) (omega arith) (omega arith))
 
     abbrev pub target_run : ℕ → Ended
     target_run n = run_steps M' n target

@@ -1,9 +1,8 @@
 -- There is a rewriting: the rewritten module with its instructions at ascending offsets.
-use Rattle.std.proofs.Common.{◌≡◌, ℕ, suc, ◌+◌, Bool, true, false, if◌then◌else◌, List, [], ◌∷◌, ◌++◌, length, map, Option, Some, None, refl, sym, ap, ap₂, ◌∙◌, subst, arith, slice_get, append_assoc, length-append}
+use Rattle.std.proofs.Common.{◌≡◌, ℕ, suc, ◌+◌, ◌*◌, Bool, true, false, if◌then◌else◌, List, [], ◌∷◌, ◌++◌, length, map, Option, Some, None, refl, sym, ap, ap₂, ◌∙◌, subst, arith, slice_get, append_assoc, length-append}
 use Rattle.std.specs.Prelude.{codes, IsUtf8}
 use Rattle.std.specs.List.{AllByRecursion}
 use Rattle.std.proofs.lemmas.List.{length-map, map-append}
-use Rattle.wasm_syntax.specs.declared.value.ValType.TheVariants.{I32}
 use Rattle.wasm_syntax.specs.declared.instruction.Basic.TheVariants.{Const}
 use Rattle.wasm_syntax.specs.declared.instruction.Instr.{Instr}
 use Rattle.wasm_syntax.specs.declared.instruction.Instr.TheVariants as instrs
@@ -14,6 +13,8 @@ use Rattle.wasm_syntax.specs.declared.parts.Global.{Global}
 use Rattle.wasm_syntax.specs.declared.parts.Export.{Export}
 use Rattle.wasm_syntax.specs.declared.parts.Limits.{Limits}
 use Rattle.wasm_syntax.specs.declared.module.ModuleParts.{ModuleParts as Module}
+use Rattle.wasm_syntax.specs.declared.value.Value.{Value}
+use Rattle.wasm_syntax.specs.declared.value.Value.TheVariants as values
 use Rattle.wasm_syntax.specs.Tree.{Unreachable, Br, BrIf, BrTable, Return, Call, CallIndirect, Nodes, stop, basic, jump, block, loop, choose, Tree, code_of, Writes}
 use Rattle.wasm_syntax.specs.Module.{Program, Function, imported, defined, function_at, AllWrite, Ascend, TakeUp, InOrder, IsExpression, IsModule}
 use Rattle.wasm_syntax.specs.Machine.{result_of}
@@ -31,7 +32,7 @@ use Rattle.rewrite_bodies.specs.calls.Guards.{helper}
 use Rattle.wasm_syntax.specs.SameCode.{op_code, body_code, global_code, element_code, code_alone}
 use Rattle.rewrite_modules.specs.calls.FlatCode.{targets_in, op, else_op, ops_in, body_of}
 use Rattle.rewrite_modules.specs.Collector.{memory_export}
-use Rattle.rewrite_modules.specs.calls.Instrument.{new_nodes, new_body, each, number_init, zero_init, shown_element, inner_element, shown_elements, new_exports, wrapper_type, new_module}
+use Rattle.rewrite_modules.specs.calls.Instrument.{new_nodes, new_body, each, value_init, number_init, flag_global, memory_min, length_global, shown_element, inner_element, shown_elements, new_exports, wrapper_type, new_module}
 use Rattle.rewrite_modules.specs.calls.Wrappers.{wrapper}
 use Rattle.rewrite_modules.proofs.FineBodies.{fine_at, gives_one}
 use Rattle.rewrite_modules.proofs.Links.{length-each}
@@ -211,22 +212,20 @@ memory_name (l ∷ ls) = (utf8_memory, tt)
 
 -- ---- the module
 
-abbrev zero_flag : Body → Global
-zero_flag init = record { vtype = I32; mutable = true; init = init }
+-- an added global, whose initial value has its numbers in place of offsets
+abbrev numbered : Global → Global
+numbered g = record { vtype = g.vtype; mutable = g.mutable; init = number_body g.init }
 
-abbrev numbered_flag : Global
-numbered_flag = zero_flag (number_body zero_init)
-
-pub number_is : (n : ℕ) → IsExpression (number_body (number_init n))
-number_is n = record {
-  tree = record { nodes = basic 0 (Const (i32 n)) stop; end = 1 };
+value_is : (v : Value) → IsExpression (number_body (value_init v))
+value_is v = record {
+  tree = record { nodes = basic 0 (Const v) stop; end = 1 };
   writes = record { arms = tt; out = refl };
-  in_order = record { offsets = ascends 0 (number_init n).ops; targets = refl };
+  in_order = record { offsets = ascends 0 (value_init v).ops; targets = refl };
   no_locals = refl;
 }
 
-flag_is : IsExpression (number_body zero_init)
-flag_is = number_is 0
+pub number_is : (n : ℕ) → IsExpression (number_body (number_init n))
+number_is n = value_is (i32 n)
 
 -- a segment for what the module itself calls
 abbrev laid_offset : Bool → Module → ElementSeg → Body
@@ -276,7 +275,7 @@ module _ (p : Program) where
 
   -- the rewritten module, with ascending offsets
   abbrev pub laid : Module
-  laid = record (new_module p) { globals = m.globals ++ numbered_flag ∷ []; elements = shown_elements m ++ map (laid_element (doubles m) m) m.elements; bodies = map number_body (new_module p).bodies }
+  laid = record (new_module p) { globals = m.globals ++ numbered flag_global ∷ numbered (length_global m) ∷ []; elements = shown_elements m ++ map (laid_element (doubles m) m) m.elements; bodies = map number_body (new_module p).bodies }
 
   as_many : length m.bodies ≡ length m.functions → length laid.bodies ≡ length laid.functions
   as_many e =
@@ -305,7 +304,7 @@ module _ (p : Program) where
         write = trees.1;
         in_order = all_in_order (new_module p).bodies (bodies_take p);
         as_many = as_many whole.as_many;
-        globals = all_append (λ g. IsExpression g.init) m.globals (numbered_flag ∷ []) whole.globals (flag_is, tt);
+        globals = all_append (λ g. IsExpression g.init) m.globals (numbered flag_global ∷ numbered (length_global m) ∷ []) whole.globals (number_is 0, (value_is (values.I64 (65536 * memory_min m.memories)), tt));
         elements = expressions m whole.elements;
         segments = whole.segments;
         import_modules = all_append (λ i. IsUtf8 i.«module») m.imports _ whole.import_modules (utf8_collector, (utf8_collector, (utf8_collector, tt)));
@@ -317,7 +316,9 @@ module _ (p : Program) where
   -- it is the rewritten module but for offsets
   pub laid_same : code_alone (new_module p) ≡ code_alone laid
   laid_same =
-      let globals : map global_code (m.globals ++ zero_flag zero_init ∷ []) ≡ map global_code (m.globals ++ numbered_flag ∷ []) = map-append global_code m.globals (zero_flag zero_init ∷ []) ∙ sym (map-append global_code m.globals (numbered_flag ∷ [])) in
+      let more = flag_global ∷ length_global m ∷ [] in
+      let numbers = numbered flag_global ∷ numbered (length_global m) ∷ [] in
+      let globals : map global_code (m.globals ++ more) ≡ map global_code (m.globals ++ numbers) = map-append global_code m.globals more ∙ sym (map-append global_code m.globals numbers) in
       let bodies = sym (bodies_number (new_module p).bodies) in
       all_same globals (elements_same m) bodies
     where

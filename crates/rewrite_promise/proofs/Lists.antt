@@ -173,7 +173,7 @@ new_short p s le =
       tables = tables_short m s.tables;
       memories = s.memories;
       globals = short_of n.globals (omega (arith, globals, le));
-      each_global = all_append (λ g. ShortBody g.init) m.globals _ s.each_global (record { groups = lit< tt; ops = lit< tt; targets = lit< tt }, tt);
+      each_global = all_append (λ g. ShortBody g.init) m.globals _ s.each_global (record { groups = lit< tt; ops = lit< tt; targets = lit< tt }, (record { groups = lit< tt; ops = lit< tt; targets = lit< tt }, tt));
       exports = short_of n.exports (omega (arith, exports, le));
       export_names = all_append (λ e. Short e.name) (new_exports m 0 m.exports) _ (names_kept m 0 m.exports s.export_names) (memory_name m.memories);
       elements = short_of n.elements (omega (arith, elements, le));

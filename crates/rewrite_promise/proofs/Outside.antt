@@ -1,14 +1,12 @@
 -- What those outside see does not hang on offsets, lengths and custom sections.
-use Rattle.std.proofs.Common.{◌≡◌, ℕ, true, List, [], ◌∷◌, ◌++◌, length, map, sym, ap, ◌∙◌, subst}
+use Rattle.std.proofs.Common.{◌≡◌, ℕ, List, [], ◌∷◌, ◌++◌, length, map, sym, ap, ◌∙◌, subst}
 use Rattle.std.specs.Prelude.{take}
 use Rattle.std.proofs.lemmas.List.{length-map, map-append}
 use Rattle.std.proofs.Math.Seq.{take-append_seam}
-use Rattle.wasm_syntax.specs.declared.value.ValType.TheVariants.{I32}
-use Rattle.wasm_syntax.specs.declared.parts.Global.{Global}
 use Rattle.wasm_syntax.specs.declared.module.ModuleParts.{ModuleParts as Module}
 use Rattle.wasm_syntax.specs.Module.{Program}
 use Rattle.wasm_syntax.specs.SameCode.{global_code, segment_code, code_alone}
-use Rattle.rewrite_modules.specs.calls.Instrument.{zero_init, new_module}
+use Rattle.rewrite_modules.specs.calls.Instrument.{flag_global, length_global, new_module}
 use Rattle.rewrite_modules.specs.Interface.{KeepsInterface, KeepsTable}
 use Rattle.rewrite_modules.proofs.Interface.{interface, table_kept}
 use Rattle.rewrite_modules.proofs.BareRuns.{table_bare}
@@ -32,12 +30,8 @@ front_mapped : {A B : Type 0} (f : A → B) (xs ys : List A) → take (length xs
 front_mapped f xs ys =
     ap (take (length xs)) (map-append f xs ys) ∙ ap (λ (n : ℕ). take n (map f xs ++ map f ys)) (sym (length-map xs f)) ∙ take-append_seam (map f xs) (map f ys)
 
--- the flag
-abbrev flag : Global
-flag = record { vtype = I32; mutable = true; init = zero_init }
-
 globals_first : (p : Program) → take (length p.module_.globals) (map global_code (new_module p).globals) ≡ map global_code p.module_.globals
-globals_first p = front_mapped global_code p.module_.globals (flag ∷ [])
+globals_first p = front_mapped global_code p.module_.globals (flag_global ∷ length_global p.module_ ∷ [])
 
 -- the table of a module that is the same but for offsets and lengths
 pub table_same : {m : Module} (n other : Module) → code_alone n ≡ code_alone other → KeepsTable m n → KeepsTable m other

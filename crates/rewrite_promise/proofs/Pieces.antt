@@ -18,9 +18,9 @@ use Rattle.wasm_format_laws.proofs.Measures.{sized_length}
 use Rattle.rewrite_bodies.specs.Numbering.{import_count, mapped, value_import, frame_import, flag_of, global_types}
 use Rattle.rewrite_bodies.specs.calls.Slots.{group, groups}
 use Rattle.rewrite_bodies.specs.calls.Pieces.{const, i32, call, if_any}
-use Rattle.rewrite_bodies.specs.calls.Guards.{first_table, type_label, entry_label, says, helper}
+use Rattle.rewrite_bodies.specs.calls.Guards.{renew, first_table, type_label, entry_label, says, helper}
 use Rattle.rewrite_bodies.specs.calls.Length.{code_length, jump_length}
-use Rattle.rewrite_bodies.proofs.Lengths.{len_const, len_call, len_global_get, len_global_set}
+use Rattle.rewrite_bodies.proofs.Lengths.{len_renewed, len_const, len_call, len_global_get, len_global_set}
 use Rattle.rewrite_modules.specs.calls.FlatCode.{body_of}
 use Rattle.rewrite_modules.specs.calls.Wrappers.{get_all, tell_globals, lower_flag, end_of_dump, after_wrapped, wrapper}
 use Rattle.wasm_format_laws.proofs.Numbers.{some_bytes, few_bytes, single_byte, four_bytes}
@@ -67,7 +67,7 @@ len_zero : (k : Nodes) → code_length (const (i32 0) k) ≡ 2 + code_length k
 unfolding signed_bytes signed_groups
 len_zero k = refl
 
-dump_short : (m : Module) → import_count m < 268435450 → code_length (end_of_dump m) ≤ 56 + 16 * length m.globals
+dump_short : (m : Module) → import_count m < 268435450 → code_length (end_of_dump m) ≤ 45 + 16 * length m.globals
 dump_short m few =
     let k0 = jump 0 Unreachable stop in
     let l0 = basic 0 (GlobalSet (flag_of m)) k0 in
@@ -94,13 +94,15 @@ wrapper_short m f few =
     let k1 = after_wrapped m in
     let k2 = call (mapped m f) k1 in
     let k3 = get_all 0 n k2 in
-    let a = len_const (i32 0) (basic 0 (GlobalSet (flag_of m)) k3) in
-    let b = len_global_set (flag_of m) k3 in
+    let k4 = renew m k3 in
+    let a = len_zero (basic 0 (GlobalSet (flag_of m)) k4) in
+    let b = len_global_set (flag_of m) k4 in
+    let h = len_renewed m.memories m k3 in
     let c = get_all_short 0 n k2 in
     let d = len_call (mapped m f) k1 in
     let e = len_global_get (flag_of m) (if_any (end_of_dump m) stop) in
     let g = dump_short m few in
-    omega (arith, a, b, c, d, e, g)
+    omega (arith, a, b, c, d, e, g, h)
 
 -- a wrapper's entry takes what the weight gives to an entry, but for 13 bytes
 pub wrapper_entry : (m : Module) (f : ℕ) → import_count m < 268435450 → 13 + length (entry_bytes (body_of [] (wrapper m f))) ≤ 128 + 16 * parameter_count (type_at m f) + 16 * length m.globals

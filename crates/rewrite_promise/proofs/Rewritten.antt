@@ -202,11 +202,11 @@ fits : FitsModule other
 unfolding word whole
 fits =
     let order = is_rewriting.other_whole.in_order in
-    let flag = is_rewriting.other_whole.globals in
+    let added = is_rewriting.other_whole.globals in
     record {
       front = record {
         declarations = record { imports = (lit< tt, (lit< tt, (lit< tt, tt))); functions = (lit< tt, (lit< tt, tt)); tables = tt; memories = tt };
-        globals = (expression_fits _ refl flag.0.in_order refl, tt);
+        globals = (expression_fits _ refl added.0.in_order refl, (expression_fits _ refl added.1.0.in_order refl, tt));
         exports = (lit< tt, tt);
         start = tt;
         elements = tt;

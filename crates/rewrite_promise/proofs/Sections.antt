@@ -1,5 +1,5 @@
 -- The bytes of the sections of a rewritten module, against those of the module.
-use Rattle.std.proofs.Common.{◌≡◌, ℕ, ◌+◌, ◌*◌, ◌<◌, ◌≤◌, Bool, true, false, nat_lt, if◌then◌else◌, List, [], ◌∷◌, ◌++◌, length, map, flat_map, Option, Some, None, option_map, refl, ap, lit≤, arith, length-append, w32}
+use Rattle.std.proofs.Common.{◌≡◌, ℕ, ◌+◌, ◌*◌, ◌<◌, ◌≤◌, Bool, true, false, nat_lt, if◌then◌else◌, List, [], ◌∷◌, ◌++◌, length, map, flat_map, Option, Some, None, option_map, refl, ap, lit≤, arith, length-append, w32, w64}
 use Rattle.std.specs.Prelude.{codes}
 use Rattle.std.proofs.lemmas.List.{length-map}
 use Rattle.wasm_leb.specs.Writing.{unsigned_bytes, signed_groups, signed_bytes}
@@ -16,6 +16,7 @@ use Rattle.wasm_syntax.specs.declared.parts.Limits.{Limits}
 use Rattle.wasm_syntax.specs.declared.parts.Body.{Body}
 use Rattle.wasm_syntax.specs.declared.instruction.Op.{Op}
 use Rattle.wasm_syntax.specs.declared.module.ModuleParts.{ModuleParts as Module}
+use Rattle.wasm_syntax.specs.declared.value.Value.TheVariants as values
 use Rattle.wasm_format.specs.Encoding.{encoding as instruction_bytes}
 use Rattle.wasm_encode.specs.Encoding.{vector_bytes, sized_bytes, start_section, type_byte, mutability_byte, value_type_bytes, function_type_bytes, import_bytes, table_bytes, limits_bytes, range_bytes, global_bytes, export_bytes, element_bytes, entry_bytes, segment_bytes, expression_bytes, group_bytes, function_bytes, encoding}
 use Rattle.wasm_format_laws.proofs.Measures.{sized_length}
@@ -25,7 +26,7 @@ use Rattle.wasm_syntax.specs.Run.{table_min, element_at}
 use Rattle.rewrite_bodies.specs.calls.Guards.{helper_type}
 use Rattle.wasm_syntax.specs.SameCode.{op_code, body_code, global_code, element_code, segment_code, code_alone}
 use Rattle.rewrite_modules.specs.Collector.{collector_import, memory_export}
-use Rattle.rewrite_modules.specs.calls.Instrument.{number_init, zero_init, shown_element, shown_elements, inner_element, new_index, new_exports}
+use Rattle.rewrite_modules.specs.calls.Instrument.{value_init, number_init, flag_global, memory_min, length_global, shown_element, shown_elements, inner_element, new_index, new_exports}
 use Rattle.rewrite_modules.specs.Interface.{doubled, new_tables}
 use Rattle.wasm_format_laws.proofs.Numbers.{some_bytes, three_more, single_byte}
 use Rattle.wasm_format_laws.proofs.Totals.{total, total-append, vector_total, section_most, section_least}
@@ -135,14 +136,22 @@ functions_grow fs ws hs go back =
 
 -- ---- globals
 
-flag_length : length (global_bytes (record { vtype = I32; mutable = true; init = zero_init })) ≡ 5
+flag_length : length (global_bytes flag_global) ≡ 5
 unfolding global_bytes expression_bytes instruction_bytes signed_bytes signed_groups type_byte mutability_byte
 flag_length = refl
 
-pub globals_grow : (gs : List Global) → total (λ g. length (global_bytes g)) (gs ++ record { vtype = I32; mutable = true; init = zero_init } ∷ []) ≤ 5 + total (λ g. length (global_bytes g)) gs
-globals_grow gs =
-    let all = total-append (λ g. length (global_bytes g)) gs (record { vtype = I32; mutable = true; init = zero_init } ∷ []) in
-    omega (arith, all, flag_length)
+length_length : (m : Module) → length (global_bytes (length_global m)) ≤ 14
+unfolding global_bytes instruction_bytes type_byte mutability_byte
+length_length m =
+    let n = 65536 * memory_min m.memories in
+    let a = ten_signed (cast_signed w64 n) in
+    let b = expression_total (value_init (values.I64 n)) in
+    omega (arith, a, b)
+
+pub globals_grow : (m : Module) (gs : List Global) → total (λ g. length (global_bytes g)) (gs ++ flag_global ∷ length_global m ∷ []) ≤ 19 + total (λ g. length (global_bytes g)) gs
+globals_grow m gs =
+    let all = total-append (λ g. length (global_bytes g)) gs (flag_global ∷ length_global m ∷ []) in
+    omega (arith, all, flag_length, length_length m)
 
 -- ---- exports
 

@@ -179,7 +179,7 @@ module _ (m : Module) (x : Instrumentable m) (sized : Sized m) where
       let a = types_grow m.types in
       let b = imports_grow m.imports t in
       let c = functions_grow m.functions (wrapped m) (helped p) (wrapper_type m) (λ u. t + 3) in
-      let d = globals_grow m.globals in
+      let d = globals_grow m m.globals in
       let e = exports_grow m in
       let f = elements_grow m (offsets_some m.elements (all_of (ElementFine m) m.elements (λ i. x.valid (places.ElementAt i)))) in
       let k = tables_grow m in

@@ -10,7 +10,7 @@ use Rattle.wasm_syntax.specs.Tree.{BrTable, Return, Unreachable, Nodes, stop, ba
 use Rattle.rewrite_bodies.specs.Numbering.{mapped, value_import, frame_import, flag_of, global_types}
 use Rattle.rewrite_bodies.specs.calls.Slots.{Ctx, kind_at, offset_at}
 use Rattle.rewrite_bodies.specs.calls.Pieces.{get, const, i32, call}
-use Rattle.rewrite_bodies.specs.calls.Guards.{says, helper, entry_label, first_table}
+use Rattle.rewrite_bodies.specs.calls.Guards.{renew, says, helper, entry_label, first_table}
 use Rattle.rewrite_bodies.specs.calls.Rewrite.{hand_locals, zero_result, raise_flag, exit_code, rewrite, body}
 use Rattle.rewrite_modules.specs.calls.Wrappers.{get_all, tell_globals, lower_flag, end_of_dump, after_wrapped, wrapper_nodes}
 use Rattle.rewrite_code.specs.calls.Writing.{Written, Behind, ends, goes, Emits, EmitsLast, Opens, Closes}
@@ -90,8 +90,8 @@ pub wrapped_tested : (m : Module) (x : ℕ) {a b c d e : Written} → x ≡ flag
     EmitsLast (after_wrapped m) a e
 wrapped_tested m x at p o i j = emits_last (global_get_at at p) (emits_stop (emits_within o i j))
 
-pub wrapper_written : (m : Module) (f n x g : ℕ) {a b c d e : Written} → x ≡ flag_of m → g ≡ mapped m f → Emits (λ k. const (i32 0) (basic 0 (GlobalSet x) k)) a b → Emits (get_all 0 n) b c → Emits (call g) c d → EmitsLast (after_wrapped m) d e → EmitsLast (wrapper_nodes m f n) a e
-wrapper_written m f n x g flag there p q r s = emits_last (flag_lowered m x flag p) (emits_last q (emits_last (call_at there r) s))
+pub wrapper_written : (m : Module) (f n x g : ℕ) {a b w c d e : Written} → x ≡ flag_of m → g ≡ mapped m f → Emits (λ k. const (i32 0) (basic 0 (GlobalSet x) k)) a b → Emits (renew m) b w → Emits (get_all 0 n) w c → Emits (call g) c d → EmitsLast (after_wrapped m) d e → EmitsLast (wrapper_nodes m f n) a e
+wrapper_written m f n x g flag there p w q r s = emits_last (flag_lowered m x flag p) (emits_last w (emits_last q (emits_last (call_at there r) s)))
 
 pub says_kind : (kind : ℕ) {a b c : Written} → Emits (const (i32 kind)) a b → Emits (jump 0 Return) b c → EmitsLast (says kind) a c
 says_kind kind p q = emits_last p (emits_stop q)

@@ -12,6 +12,7 @@ use Rattle.wasm_syntax.specs.Run.{table_min}
 use Rattle.rewrite_bodies.specs.calls.Slots.{Place, Spilled, Ctx, less, kind_at, offset_at}
 use Rattle.rewrite_bodies.specs.calls.Pieces.{get, set, const, i32, call, fetch, load, keep, store, reload, drops}
 use Rattle.rewrite_bodies.specs.calls.Rewrite.{to_exit, unwind, test_flag, hand, hand_top, hand_left, test_both, after_call, after_direct, call_code, helper_of, past_shown, indirect_code}
+use Rattle.rewrite_bodies.specs.calls.Guards.{renew}
 use Rattle.rewrite_code.specs.calls.Writing.{Written, Emits, EmitsLast, Opens, Closes}
 use Rattle.rewrite_code.proofs.Pieces.{emits_then, emits_last, emits_stop, emits_within}
 use Rattle.rewrite_code.specs.declared.place.OperandPlace.{OperandPlace}
@@ -20,30 +21,30 @@ use Rattle.rewrite_code.proofs.Loads.{emits_same, discarded, length_from_top, ha
 use Rattle.unwind_rewrite.proofs.Numbers.{get_at, set_at, call_at}
 use Rattle.unwind_rewrite.proofs.Branching.{less_length}
 
-pub came_back : (C : Ctx) (ls : ℕ) (r : Option ValType) (es : List Place) (o : ℕ) {a b c : Written} → Emits (keep C (option_map Spilled r) es) a b → Emits (test_flag C ls es o) b c → Emits (λ k. after_call C ls r es o (λ left. k)) a c
-came_back C ls r es o p q = emits_same (λ k. refl) (emits_then p q)
+pub came_back : (C : Ctx) (pass : Bool) (ls : ℕ) (r : Option ValType) (es : List Place) (o : ℕ) {a b c : Written} → Emits (keep pass C (option_map Spilled r) es) a b → Emits (test_flag C ls es o) b c → Emits (λ k. after_call C ls r es o pass (λ left. k)) a c
+came_back C pass ls r es o p q = emits_same (λ k. refl) (emits_then p q)
 
 -- what stands behind a call of a function of this type
-abbrev pub behind : Ctx → ℕ → List Place → ℕ → ℕ → FuncType → Nodes → Nodes
-behind C ls es o f type k = after_direct (nat_lt f (import_count C.source)) C ls (result_of type) (less (length type.params) es) o (λ left. k)
+abbrev pub behind : Ctx → Bool → ℕ → List Place → ℕ → ℕ → FuncType → Nodes → Nodes
+behind C pass ls es o f type k = after_direct (nat_lt f (import_count C.source)) C ls (result_of type) (less (length type.params) es) o pass (λ left. k)
 
-pub came_import : (C : Ctx) (ls : ℕ) (es : List Place) (o f : ℕ) (type : FuncType) (n : ℕ) (r : Option ValType) {a b : Written} → n ≡ length type.params → r ≡ result_of type → nat_lt f (import_count C.source) ≡ true →
-    Emits (keep C (option_map Spilled r) (less n es)) a b → Emits (behind C ls es o f type) a b
-came_import C ls es o f type n r {a} {b} count gives is p =
-    let one : Emits (keep C (option_map Spilled r) (less (length type.params) es)) a b = subst (λ n. Emits (keep C (option_map Spilled r) (less n es)) a b) count p in
-    let two : Emits (keep C (option_map Spilled (result_of type)) (less (length type.params) es)) a b = subst (λ r. Emits (keep C (option_map Spilled r) (less (length type.params) es)) a b) gives one in
-    subst (λ i. Emits (λ k. after_direct i C ls (result_of type) (less (length type.params) es) o (λ left. k)) a b) (sym is) (emits_same (λ k. refl) two)
+pub came_import : (C : Ctx) (pass : Bool) (ls : ℕ) (es : List Place) (o f : ℕ) (type : FuncType) (n : ℕ) (r : Option ValType) {a b c : Written} → n ≡ length type.params → r ≡ result_of type → nat_lt f (import_count C.source) ≡ true →
+    Emits (renew C.source) c a → Emits (keep pass C (option_map Spilled r) (less n es)) a b → Emits (behind C pass ls es o f type) c b
+came_import C pass ls es o f type n r {a} {b} {c} count gives is w p =
+    let one : Emits (keep pass C (option_map Spilled r) (less (length type.params) es)) a b = subst (λ n. Emits (keep pass C (option_map Spilled r) (less n es)) a b) count p in
+    let two : Emits (keep pass C (option_map Spilled (result_of type)) (less (length type.params) es)) a b = subst (λ r. Emits (keep pass C (option_map Spilled r) (less (length type.params) es)) a b) gives one in
+    subst (λ i. Emits (λ k. after_direct i C ls (result_of type) (less (length type.params) es) o pass (λ left. k)) c b) (sym is) (emits_same (λ k. refl) (emits_then w two))
 
-pub came_defined : (C : Ctx) (ls : ℕ) (es : List Place) (o f : ℕ) (type : FuncType) (n : ℕ) (r : Option ValType) {a b : Written} → n ≡ length type.params → r ≡ result_of type → nat_lt f (import_count C.source) ≡ false →
-    Emits (λ k. after_call C ls r (less n es) o (λ left. k)) a b → Emits (behind C ls es o f type) a b
-came_defined C ls es o f type n r {a} {b} count gives is p =
-    let one : Emits (λ k. after_call C ls r (less (length type.params) es) o (λ left. k)) a b = subst (λ n. Emits (λ k. after_call C ls r (less n es) o (λ left. k)) a b) count p in
-    let two : Emits (λ k. after_call C ls (result_of type) (less (length type.params) es) o (λ left. k)) a b = subst (λ r. Emits (λ k. after_call C ls r (less (length type.params) es) o (λ left. k)) a b) gives one in
-    subst (λ i. Emits (λ k. after_direct i C ls (result_of type) (less (length type.params) es) o (λ left. k)) a b) (sym is) (emits_same (λ k. refl) two)
+pub came_defined : (C : Ctx) (pass : Bool) (ls : ℕ) (es : List Place) (o f : ℕ) (type : FuncType) (n : ℕ) (r : Option ValType) {a b : Written} → n ≡ length type.params → r ≡ result_of type → nat_lt f (import_count C.source) ≡ false →
+    Emits (λ k. after_call C ls r (less n es) o pass (λ left. k)) a b → Emits (behind C pass ls es o f type) a b
+came_defined C pass ls es o f type n r {a} {b} count gives is p =
+    let one : Emits (λ k. after_call C ls r (less (length type.params) es) o pass (λ left. k)) a b = subst (λ n. Emits (λ k. after_call C ls r (less n es) o pass (λ left. k)) a b) count p in
+    let two : Emits (λ k. after_call C ls (result_of type) (less (length type.params) es) o pass (λ left. k)) a b = subst (λ r. Emits (λ k. after_call C ls r (less (length type.params) es) o pass (λ left. k)) a b) gives one in
+    subst (λ i. Emits (λ k. after_direct i C ls (result_of type) (less (length type.params) es) o pass (λ left. k)) a b) (sym is) (emits_same (λ k. refl) two)
 
-pub called : (C : Ctx) (ls : ℕ) (es : List Place) (o f g : ℕ) (type : FuncType) {a b c : Written} → g ≡ mapped C.source f →
-    Emits (call g) a b → Emits (behind C ls es o f type) b c → Emits (λ k. call_code C ls es o f (Some type) (λ left. k)) a c
-called C ls es o f g type is p q = emits_same (λ k. refl) (emits_then (call_at is p) q)
+pub called : (C : Ctx) (pass : Bool) (ls : ℕ) (es : List Place) (o f g : ℕ) (type : FuncType) {a b c : Written} → g ≡ mapped C.source f →
+    Emits (call g) a b → Emits (behind C pass ls es o f type) b c → Emits (λ k. call_code C ls es o f (Some type) pass (λ left. k)) a c
+called C pass ls es o f g type is p q = emits_same (λ k. refl) (emits_then (call_at is p) q)
 
 pub caller_unwound : (C : Ctx) (ls : ℕ) (es : List Place) (o : ℕ) {a b c d e : Written} → Emits (λ k. const (i32 0) (set C (kind_at C) k)) a b → Emits (λ k. const (i32 o) (set C (offset_at C) k)) b c →
     Emits (hand C es) c d → EmitsLast (to_exit C ls) d e → EmitsLast (const (i32 0) (set C (kind_at C) (unwind C ls es o))) a e
@@ -75,12 +76,12 @@ pub entry_called : (C : Ctx) (n t : ℕ) (r : Option ValType) (es : List Place) 
     EmitsLast (load C n es (past_shown (doubles C.source) C (jump 0 (CallIndirect t) (store C r (less n es) stop)))) a e
 entry_called C n t r es p m q s = emits_last p (emits_last m (emits_last q (emits_stop s)))
 
-pub through_table : (C : Ctx) (ls : ℕ) (all : List Place) (e p : Place) (es : List Place) (o t f h n : ℕ) (type : FuncType) (r : Option ValType) {a b c d g j u v : Written} → f ≡ helper_of C t → all ≡ e ∷ es → Some p ≡ slice_get all 0 →
+pub through_table : (C : Ctx) (ls : ℕ) (all : List Place) (e p : Place) (es : List Place) (o t f h n : ℕ) (type : FuncType) (r : Option ValType) {a b c d g j w u v : Written} → f ≡ helper_of C t → all ≡ e ∷ es → Some p ≡ slice_get all 0 →
     h ≡ length all - 1 → n ≡ suc (length type.params) → r ≡ result_of type →
     Emits (λ k. fetch C p h (call f (set C (kind_at C) (get C (kind_at C) (basic 0 (Eqz I32) k))))) a b → Opens (λ arm k. choose 0 None arm None stop 0 k) b c →
-    EmitsLast (load C n all (past_shown (doubles C.source) C (jump 0 (CallIndirect t) (store C r (less n all) stop)))) c d → Closes d g → Emits (test_both C ls (less n all) o (hand_top C n all stop)) g j → Emits (drops n) j u → Emits (reload C r (less n all)) u v →
+    EmitsLast (load C n all (past_shown (doubles C.source) C (jump 0 (CallIndirect t) (store C r (less n all) stop)))) c d → Closes d g → Emits (test_both C ls (less n all) o (hand_top C n all stop)) g j → Emits (drops n) j w → Emits (renew C.source) w u → Emits (reload C r (less n all)) u v →
     Emits (λ k. indirect_code C ls all o t (Some type) (λ behind. k)) a v
-through_table C ls all e p es o t f h n type r {a} {b} {c} {d} {g} {j} {u} {v} helps is top at count gives q op l cl tb dr re =
+through_table C ls all e p es o t f h n type r {a} {b} {c} {d} {g} {j} {w} {u} {v} helps is top at count gives q op l cl tb dr nw re =
     let m = length type.params in
     let same : p ≡ e = some_same (top ∙ ap (λ l. slice_get l 0) is) in
     let height : h ≡ length es = at ∙ ap (λ l. length l - 1) is ∙ omega arith in
@@ -92,11 +93,11 @@ through_table C ls all e p es o t f h n type r {a} {b} {c} {d} {g} {j} {u} {v} h
     let l3 : EmitsLast (load C (suc m) (e ∷ es) (past_shown (doubles C.source) C (jump 0 (CallIndirect t) (store C (result_of type) (less m es) stop)))) c d = subst (λ r. EmitsLast (load C (suc m) (e ∷ es) (past_shown (doubles C.source) C (jump 0 (CallIndirect t) (store C r (less m es) stop)))) c d) gives l2 in
     let t1 : Emits (test_both C ls (less (suc m) all) o (hand_top C (suc m) all stop)) g j = subst (λ n. Emits (test_both C ls (less n all) o (hand_top C n all stop)) g j) count tb in
     let t2 : Emits (test_both C ls (less m es) o (hand_top C (suc m) (e ∷ es) stop)) g j = subst (λ l. Emits (test_both C ls (less (suc m) l) o (hand_top C (suc m) l stop)) g j) is t1 in
-    let d1 : Emits (drops (suc m)) j u = subst (λ n. Emits (drops n) j u) count dr in
+    let d1 : Emits (drops (suc m)) j w = subst (λ n. Emits (drops n) j w) count dr in
     let r1 : Emits (reload C r (less (suc m) all)) u v = subst (λ n. Emits (reload C r (less n all)) u v) count re in
     let r2 : Emits (reload C r (less m es)) u v = subst (λ l. Emits (reload C r (less (suc m) l)) u v) is r1 in
     let r3 : Emits (reload C (result_of type) (less m es)) u v = subst (λ r. Emits (reload C r (less m es)) u v) gives r2 in
-    let whole : Emits (λ k. indirect_code C ls (e ∷ es) o t (Some type) (λ behind. k)) a v = emits_same (λ k. refl) (emits_then q3 (emits_then (emits_within op l3 cl) (emits_then t2 (emits_then d1 r3)))) in
+    let whole : Emits (λ k. indirect_code C ls (e ∷ es) o t (Some type) (λ behind. k)) a v = emits_same (λ k. refl) (emits_then q3 (emits_then (emits_within op l3 cl) (emits_then t2 (emits_then d1 (emits_then nw r3))))) in
     subst (λ l. Emits (λ k. indirect_code C ls l o t (Some type) (λ behind. k)) a v) (sym is) whole
   where
     some_same : {p q : Place} → Some p ≡ Some q → p ≡ q

@@ -1,5 +1,5 @@
 -- What basic instructions, blocks and the ends of lists come to.
-use Rattle.std.proofs.Common.{◌≡◌, ℕ, suc, ◌≤◌, List, [], ◌∷◌, length, option_map, true, Option, Some, None, refl, sym, ap, subst, ◌∙◌, arith}
+use Rattle.std.proofs.Common.{◌≡◌, ℕ, suc, ◌≤◌, List, [], ◌∷◌, length, option_map, Bool, true, Option, Some, None, refl, sym, ap, subst, ◌∙◌, arith}
 use Rattle.wasm_syntax.specs.declared.value.ValType.{ValType}
 use Rattle.wasm_syntax.specs.declared.instruction.Basic.{Basic}
 use Rattle.wasm_syntax.specs.declared.instruction.Instr.{Instr}
@@ -21,29 +21,29 @@ use Rattle.unwind_rewrite.specs.calls.Bodies.{OpensBoth, ClosesBefore}
 use Rattle.operand_spill.specs.declared.flow.Flow.TheVariants.{Next, Ends}
 use Rattle.unwind_rewrite.specs.calls.Points.{EndsAt, Advances, IsBehind, Resumes}
 
-pub performed : (C : Ctx) (o : ℕ) (i : Basic) (w w' : Walking) (es : List Place) (n : ℕ) {now next : Written} → es ≡ w.places → n ≡ suc (length w.opens) → w' ≡ with_places w (after_plain C w.places i) →
-    Emits (λ k. plain C n es o i (λ left. k)) now next → Advances C o (Plain i) w now w' next Next
-performed C o i w w' es n {now} {next} same depth becomes e = λ code start whole pc b r.
-    let over : Emits (λ k. plain C n w.places o i (λ left. k)) now next = subst (λ z. Emits (λ k. plain C n z o i (λ left. k)) now next) same e in
-    let piece : Emits (λ k. plain C (depth_in w) w.places o i (λ left. k)) now next = subst (λ m. Emits (λ k. plain C m w.places o i (λ left. k)) now next) depth over in
-    subst (λ v. Rewrites C code start whole (suc pc) v next) (sym becomes) (step_basic C code start whole pc w now next o i b piece r)
+pub performed : (C : Ctx) (p : Bool) (o : ℕ) (i : Basic) (w w' : Walking) (es : List Place) (n : ℕ) {now next : Written} → es ≡ w.places → n ≡ suc (length w.opens) → w' ≡ with_places w (after_plain C w.places i) →
+    Emits (λ k. plain C n es o i p (λ left. k)) now next → Advances C p o (Plain i) w now w' next Next
+performed C p o i w w' es n {now} {next} same depth becomes e = λ code start whole pc b q r.
+    let over : Emits (λ k. plain C n w.places o i p (λ left. k)) now next = subst (λ z. Emits (λ k. plain C n z o i p (λ left. k)) now next) same e in
+    let piece : Emits (λ k. plain C (depth_in w) w.places o i p (λ left. k)) now next = subst (λ m. Emits (λ k. plain C m w.places o i p (λ left. k)) now next) depth over in
+    subst (λ v. Rewrites C code start whole (suc pc) v next) (sym becomes) (step_basic C code start whole pc w now next o i p b q piece r)
 
-pub block_begun : (C : Ctx) (o : ℕ) (t : Option ValType) (w w' : Walking) (es : List Place) {now next : Written} → es ≡ w.places → w' ≡ opening (kept.Block t) w →
-    Opens (λ inner k. spill C (λ x. true) es (block 0 t inner 0 k)) now next → Advances C o (BlockOpens t) w now w' next Next
-block_begun C o t w w' es {now} {next} same becomes e = λ code start whole pc b r.
+pub block_begun : (C : Ctx) (p : Bool) (o : ℕ) (t : Option ValType) (w w' : Walking) (es : List Place) {now next : Written} → es ≡ w.places → w' ≡ opening (kept.Block t) w →
+    Opens (λ inner k. spill C (λ x. true) es (block 0 t inner 0 k)) now next → Advances C p o (BlockOpens t) w now w' next Next
+block_begun C p o t w w' es {now} {next} same becomes e = λ code start whole pc b q r.
     let piece : Opens (λ inner k. spill C (λ x. true) w.places (block 0 t inner 0 k)) now next = subst (λ z. Opens (λ inner k. spill C (λ x. true) z (block 0 t inner 0 k)) now next) same e in
     subst (λ v. Rewrites C code start whole (suc pc) v next) (sym becomes) (step_block C code start whole pc w now next o t b piece r)
 
-pub loop_begun : (C : Ctx) (o : ℕ) (t : Option ValType) (w w' : Walking) (es : List Place) {now next : Written} → es ≡ w.places → w' ≡ opening (kept.Loop t) w →
-    Opens (λ inner k. spill C (λ x. true) es (loop 0 t inner 0 k)) now next → Advances C o (OpensLoop t) w now w' next Next
-loop_begun C o t w w' es {now} {next} same becomes e = λ code start whole pc b r.
+pub loop_begun : (C : Ctx) (p : Bool) (o : ℕ) (t : Option ValType) (w w' : Walking) (es : List Place) {now next : Written} → es ≡ w.places → w' ≡ opening (kept.Loop t) w →
+    Opens (λ inner k. spill C (λ x. true) es (loop 0 t inner 0 k)) now next → Advances C p o (OpensLoop t) w now w' next Next
+loop_begun C p o t w w' es {now} {next} same becomes e = λ code start whole pc b q r.
     let piece : Opens (λ inner k. spill C (λ x. true) w.places (loop 0 t inner 0 k)) now next = subst (λ z. Opens (λ inner k. spill C (λ x. true) z (loop 0 t inner 0 k)) now next) same e in
     subst (λ v. Rewrites C code start whole (suc pc) v next) (sym becomes) (step_loop C code start whole pc w now next o t b piece r)
 
 -- v is without the condition
-pub if_begun : (C : Ctx) (o : ℕ) (t : Option ValType) (w w' v : Walking) (es : List Place) {now next : Written} → v ≡ with_places w (less 1 w.places) → es ≡ v.places → w' ≡ opening (kept.Block t) v →
-    Opens (λ arm k. spill C (λ x. true) es (choose 0 t arm None stop 0 k)) now next → OpensBoth (λ arm other k. spill C (λ x. true) es (choose 0 t arm (Some 0) other 0 k)) now next → Advances C o (OpensIf t) w now w' next Next
-if_begun C o t w w' v es {now} {next} taken is becomes one both = λ code start whole pc b r.
+pub if_begun : (C : Ctx) (p : Bool) (o : ℕ) (t : Option ValType) (w w' v : Walking) (es : List Place) {now next : Written} → v ≡ with_places w (less 1 w.places) → es ≡ v.places → w' ≡ opening (kept.Block t) v →
+    Opens (λ arm k. spill C (λ x. true) es (choose 0 t arm None stop 0 k)) now next → OpensBoth (λ arm other k. spill C (λ x. true) es (choose 0 t arm (Some 0) other 0 k)) now next → Advances C p o (OpensIf t) w now w' next Next
+if_begun C p o t w w' v es {now} {next} taken is becomes one both = λ code start whole pc b q r.
     let left : es ≡ less 1 w.places = is ∙ ap (λ (z : Walking). z.places) taken in
     let at : Opens (λ arm k. spill C (λ x. true) (less 1 w.places) (choose 0 t arm None stop 0 k)) now next = subst (λ z. Opens (λ arm k. spill C (λ x. true) z (choose 0 t arm None stop 0 k)) now next) left one in
     let two : OpensBoth (λ arm other k. spill C (λ x. true) (less 1 w.places) (choose 0 t arm (Some 0) other 0 k)) now next = subst (λ z. OpensBoth (λ arm other k. spill C (λ x. true) z (choose 0 t arm (Some 0) other 0 k)) now next) left both in
@@ -63,27 +63,27 @@ ends_there C code start whole pc to w now end le r = record {
   comes = record { comes = r.comes.comes };
 }
 
-pub before_end : (C : Ctx) (o : ℕ) (w : Walking) {now : Written} → Advances C o End w now w now Ends
-before_end C o w {now} = λ code start whole pc b r to end le. ends_there C code start whole pc to w now end le (step_end C code start whole pc w now o b r)
+pub before_end : (C : Ctx) (p : Bool) (o : ℕ) (w : Walking) {now : Written} → Advances C p o End w now w now Ends
+before_end C p o w {now} = λ code start whole pc b q r to end le. ends_there C code start whole pc to w now end le (step_end C code start whole pc w now o b r)
 
-pub before_else : (C : Ctx) (o : ℕ) (w : Walking) {now : Written} → Advances C o Else w now w now Ends
-before_else C o w {now} = λ code start whole pc b r to end le. ends_there C code start whole pc to w now end le (step_else C code start whole pc w now o b r)
+pub before_else : (C : Ctx) (p : Bool) (o : ℕ) (w : Walking) {now : Written} → Advances C p o Else w now w now Ends
+before_else C p o w {now} = λ code start whole pc b q r to end le. ends_there C code start whole pc to w now end le (step_else C code start whole pc w now o b r)
 
 -- ---- `else` and `end`
 
-pub alternated : (C : Ctx) (w w' : Walking) {now next : Written} → w' ≡ alternating w → Alternates now next → Resumes C Else w now w' next
-alternated C w w' {now} {next} becomes e = λ code start whole pc o b lt r.
+pub alternated : (C : Ctx) (p : Bool) (w w' : Walking) {now next : Written} → w' ≡ alternating w → Alternates now next → Resumes C p Else w now w' next
+alternated C p w w' {now} {next} becomes e = λ code start whole pc o b lt q r.
     subst (λ v. Rewrites C code start whole (suc pc) v next) (sym becomes) (alternate C code start whole pc w now next o b e r)
 
-pub closed : (C : Ctx) (w w' : Walking) (l : Label) (t : Option ValType) (h : ℕ) {now next : Written} → ((x : OpenBlock) (others : List OpenBlock) → w.opens ≡ x ∷ others → l ≡ x.label) → t ≡ end_gives (info l) →
+pub closed : (C : Ctx) (p : Bool) (w w' : Walking) (l : Label) (t : Option ValType) (h : ℕ) {now next : Written} → ((x : OpenBlock) (others : List OpenBlock) → w.opens ≡ x ∷ others → l ≡ x.label) → t ≡ end_gives (info l) →
     ((x : OpenBlock) (others : List OpenBlock) → w.opens ≡ x ∷ others → h ≡ length x.saved) → w' ≡ closing w →
-    ((places : List Place) → length places ≡ h → ClosesBefore (keep C (option_map Spilled t) places) now next) → Resumes C End w now w' next
-closed C w w' l t h {now} {next} first gives below becomes e = λ code start whole pc o b lt r.
+    ((places : List Place) → length places ≡ h → ClosesBefore (keep p C (option_map Spilled t) places) now next) → Resumes C p End w now w' next
+closed C p w w' l t h {now} {next} first gives below becomes e = λ code start whole pc o b lt q r.
     subst (λ v. Rewrites C code start whole (suc pc) v next) (sym becomes)
-    (close C code start whole pc w now next o b lt
+    (close C code start whole pc w now next o p b lt q
     (λ x others is k behind.
     let gave : t ≡ end_gives (info x.label) = gives ∙ ap (λ (l : Label). end_gives (info l)) (first x others is) in
-    (subst (λ t. ClosesBefore (keep C (option_map Spilled t) x.saved) now next) gave (e x.saved (sym (below x others is)))).closed k behind) r)
+    (subst (λ t. ClosesBefore (keep p C (option_map Spilled t) x.saved) now next) gave (e x.saved (sym (below x others is)))).closed k behind) r)
 
 -- ---- what is behind a list
 

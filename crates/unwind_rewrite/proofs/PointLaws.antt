@@ -1,22 +1,27 @@
 -- What is known at a point of a body, and where the code goes from there.
 use Rattle.rewrite_bodies.specs.calls.Landings.{most_landings}
-use Rattle.std.proofs.Common.{◌≡◌, ℕ, suc, ◌+◌, ◌-◌, ◌^◌, ◌<◌, ◌≤◌, true, false, nat_le, List, [], ◌∷◌, length, drop, get_or, slice_get, sym, ap, subst, ◌∙◌, arith, length-drop}
+use Rattle.std.proofs.Common.{◌≡◌, ◌≢◌, ℕ, zero, suc, ◌&&◌, not, ◌+◌, ◌-◌, ◌^◌, ◌<◌, ◌≤◌, Bool, true, false, nat_le, Option, List, [], ◌∷◌, length, drop, get_or, slice_get, refl, sym, ap, subst, ◌∙◌, arith, length-drop}
+use Rattle.std.proofs.lemmas.List.{drop_all}
 use Rattle.std.proofs.lemmas.Option.{slice_get-get_or}
 use Rattle.std.proofs.lemmas.Bool.Decides.{nat_tests}
 use Rattle.wasm_syntax.specs.declared.instruction.Op.{Op}
 use Rattle.wasm_syntax.specs.declared.instruction.Instr.{Instr}
 use Rattle.wasm_syntax.specs.declared.instruction.Instr.TheVariants as instrs
 use Rattle.wasm_syntax.specs.declared.parts.Body.{Body}
-use Rattle.wasm_syntax.specs.Tree.{Nodes, Tree, stop, basic, jump, block, loop, choose, End, Placed, placed, write, code_of, item_of, jump_of, Writes}
+use Rattle.wasm_syntax.specs.Tree.{Nodes, Tree, stop, basic, jump, block, loop, choose, End, Placed, placed, write, code_of, item_of, jump_of, Item, Plain, Goes, Opens, OpensLoop, OpensIf, Else, Jump, Writes}
+use Rattle.wasm_syntax.specs.declared.value.ValType.{ValType}
+use Rattle.wasm_syntax.specs.declared.instruction.Basic.{Basic}
+use Rattle.wasm_syntax.specs.Effect.{takes}
+use Rattle.rewrite_bodies.specs.calls.Facts.{needs}
 use Rattle.rewrite_bodies.specs.calls.Slots.{Ctx}
-use Rattle.rewrite_bodies.specs.calls.Rewrite.{rewrite}
+use Rattle.rewrite_bodies.specs.calls.Rewrite.{any, passes, rewrite}
 use Rattle.rewrite_bodies.specs.calls.Typed.{end_gives}
 use Rattle.rewrite_bodies.proofs.Sim.{room_height}
 use Rattle.rewrite_code.specs.calls.Writing.{Written, EmitsLast}
 use Rattle.operand_spill.specs.declared.labels.OpenBlock.{OpenBlock}
 use Rattle.operand_spill.specs.calls.Labels.{info}
 use Rattle.operand_spill.specs.calls.Walking.{Walking, behind_block, at_start}
-use Rattle.operand_spill.specs.calls.Standing.{Due, before_end, before_else, flat, Fine, Around, Rewrites, Left}
+use Rattle.operand_spill.specs.calls.Standing.{Due, before_end, before_else, flat, Passes, Fine, Around, Rewrites, Left}
 use Rattle.operand_spill.proofs.Shapes.{Shape, shape, begins_read}
 use Rattle.operand_spill.proofs.Steps.{point_within, end_within, whole_written, begin}
 use Rattle.operand_spill.specs.declared.flow.Flow.{Flow}
@@ -27,6 +32,60 @@ use Rattle.unwind_rewrite.specs.calls.Numbers.{Helped, AllHelped}
 use Rattle.unwind_rewrite.specs.calls.Points.{EndsAt, Advances, Resumes, IsBehind, Holds, BeforeLast, code_in, is_last}
 use Rattle.rewrite_modules.proofs.Multiple.{code_length}
 use Rattle.rewrite_bodies.proofs.Control.{grown_longer}
+
+-- ---- whether an operand passes
+
+pub none_taken : (n m : ℕ) (b : Bool) → n ≡ m → n ≡ 0 → false ≡ (any m && b)
+none_taken n m b e z = rw (sym e ∙ z) refl
+
+pub some_taken : (n m : ℕ) (a : Bool) {b : Bool} → n ≡ m → n ≢ 0 → a ≡ b → not a ≡ (any m && not b)
+some_taken n zero a e some is = absurd (some e)
+some_taken n (suc m) a e some is = ap not is
+
+-- where nothing is left, no node is
+nothing_left : (nodes : Nodes) (dues : List Due) → [] ≡ write nodes (flat dues) → nodes ≡ stop
+nothing_left stop dues e = refl
+nothing_left (basic at i rest) dues e = absurd (cc)
+nothing_left (jump at j rest) dues e = absurd (cc)
+nothing_left (block at t inner end rest) dues e = absurd (cc)
+nothing_left (loop at t inner end rest) dues e = absurd (cc)
+nothing_left (choose at t a ea b end rest) dues e = absurd (cc)
+
+pub passes_nothing : (C : Ctx) (n : ℕ) (targets : List ℕ) (ops : List Op) → length ops ≤ n → Passes C (drop n (code_of targets ops)) true
+passes_nothing C n targets ops le nodes dues e =
+    let none : drop n (code_of targets ops) ≡ [] = drop_all n (code_of targets ops) (omega (arith, le, code_length targets ops)) in
+    ap (passes C) (sym (nothing_left nodes dues (sym none ∙ e)))
+
+-- to the node of an instruction
+pub passes_shape : (C : Ctx) (at : ℕ) (i : Item) (xs : List Placed) (p : Bool) → ((nodes : Nodes) (dues : List Due) → Shape at i xs nodes dues → p ≡ passes C nodes) → Passes C (placed at i ∷ xs) p
+passes_shape C at i xs p h nodes dues e = h nodes dues (shape nodes dues at i xs e)
+
+pub passes_basic : (C : Ctx) (at : ℕ) (i : Basic) (xs : List Placed) (p : Bool) → p ≡ (any (takes i) && not (needs C at i)) → Passes C (placed at (Plain i) ∷ xs) p
+passes_basic C at i xs p e = passes_shape C at (Plain i) xs p (λ nodes dues s. e ∙ ap (passes C) (sym s.1))
+
+pub passes_jump : (C : Ctx) (at : ℕ) (j : Jump) (xs : List Placed) (p : Bool) → ((rest : Nodes) → p ≡ passes C (jump at j rest)) → Passes C (placed at (Goes j) ∷ xs) p
+passes_jump C at j xs p e = passes_shape C at (Goes j) xs p (λ nodes dues s. e s.0 ∙ ap (passes C) (sym s.1))
+
+pub passes_block : (C : Ctx) (at : ℕ) (t : Option ValType) (xs : List Placed) → Passes C (placed at (Opens t) ∷ xs) false
+passes_block C at t xs = passes_shape C at (Opens t) xs false (λ nodes dues s. ap (passes C) (sym s.3))
+
+pub passes_loop : (C : Ctx) (at : ℕ) (t : Option ValType) (xs : List Placed) → Passes C (placed at (OpensLoop t) ∷ xs) false
+passes_loop C at t xs = passes_shape C at (OpensLoop t) xs false (λ nodes dues s. ap (passes C) (sym s.3))
+
+pub passes_if : (C : Ctx) (at : ℕ) (t : Option ValType) (xs : List Placed) → Passes C (placed at (OpensIf t) ∷ xs) true
+passes_if C at t xs = passes_shape C at (OpensIf t) xs true (λ nodes dues s. ap (passes C) (sym s.5))
+
+pub passes_else : (C : Ctx) (at : ℕ) (xs : List Placed) → Passes C (placed at Else ∷ xs) true
+passes_else C at xs = passes_shape C at Else xs true (λ nodes dues s. ap (passes C) (sym s.0))
+
+pub passes_end : (C : Ctx) (at : ℕ) (xs : List Placed) → Passes C (placed at End ∷ xs) true
+passes_end C at xs = passes_shape C at End xs true (λ nodes dues s. ap (passes C) (sym s.0))
+
+-- in the code behind an instruction
+passes_behind : (C : Ctx) (body : Body) (p : Bool) (pc : ℕ) (xs : List Op) → xs ≡ body.ops → ((targets : List ℕ) → Passes C (drop (pc + 1) (code_of targets xs)) p) → Passes C (drop (suc pc) (code_in body)) p
+passes_behind C body p pc xs same q =
+    let one : pc + 1 ≡ suc pc = omega arith in
+    subst (λ n. Passes C (drop n (code_in body)) p) one (subst (λ os. Passes C (drop (pc + 1) (code_of body.targets os)) p) same (q body.targets))
 
 -- ---- at the end of a list
 
@@ -68,14 +127,14 @@ stands_behind C body xs start whole pc d w now same r =
     by at instrs.Else h = tt
     by at instrs.End h = tt
 
-pub resumes_next : (C : Ctx) (body : Body) (xs : List Op) (start : Written) (whole : Nodes) (pc : ℕ) (d : Op) (w w' : Walking) {now next : Written} → xs ≡ body.ops → pc + 1 < length body.ops →
-    ((targets : List ℕ) → Resumes C (item_of targets (get_or xs pc d).code) w now w' next) → Left C (code_in body) start whole pc w now → Rewrites C (code_in body) start whole (pc + 1) w' next
-resumes_next C body xs start whole pc d w w' {now} {next} same lt a r =
+pub resumes_next : (C : Ctx) (p : Bool) (body : Body) (xs : List Op) (start : Written) (whole : Nodes) (pc : ℕ) (d : Op) (w w' : Walking) {now next : Written} → xs ≡ body.ops → pc + 1 < length body.ops →
+    ((targets : List ℕ) → Resumes C p (item_of targets (get_or xs pc d).code) w now w' next) → ((targets : List ℕ) → Passes C (drop (pc + 1) (code_of targets xs)) p) → Left C (code_in body) start whole pc w now → Rewrites C (code_in body) start whole (pc + 1) w' next
+resumes_next C p body xs start whole pc d w w' {now} {next} same lt a q r =
     let below : pc < length body.ops = omega (arith, lt) in
     let more : suc pc < length (code_in body) = omega (arith, lt, code_length body.targets body.ops) in
     let one : suc pc ≡ pc + 1 = omega arith in
-    let b : Resumes C (item_of body.targets (get_or body.ops pc d).code) w now w' next = subst (λ os. Resumes C (item_of body.targets (get_or os pc d).code) w now w' next) same (a body.targets) in
-    subst (λ n. Rewrites C (code_in body) start whole n w' next) one (b (code_in body) start whole pc (get_or body.ops pc d).at (begins_read body.targets body.ops pc d below) more r)
+    let b : Resumes C p (item_of body.targets (get_or body.ops pc d).code) w now w' next = subst (λ os. Resumes C p (item_of body.targets (get_or os pc d).code) w now w' next) same (a body.targets) in
+    subst (λ n. Rewrites C (code_in body) start whole n w' next) one (b (code_in body) start whole pc (get_or body.ops pc d).at (begins_read body.targets body.ops pc d below) more (passes_behind C body p pc xs same q) r)
 
 -- ---- at a live instruction
 
@@ -85,27 +144,27 @@ stands_inside C body start whole pc w now r = omega (arith, point_within C (code
 pub is_helped : (C : Ctx) (ops xs : List Op) (pc : ℕ) (d : Op) → xs ≡ ops → pc < length ops → AllHelped C ops → Helped C (get_or xs pc d).code
 is_helped C ops xs pc d same lt all = all pc (get_or xs pc d) (ap (λ os. slice_get os pc) (sym same) ∙ slice_get-get_or xs pc d (omega (arith, lt, ap length same)))
 
-advance_of : (C : Ctx) (body : Body) (ts : List ℕ) (xs : List Op) (pc : ℕ) (d : Op) (w w' : Walking) (flow flow' : Flow) (now next : Written) → ts ≡ body.targets → xs ≡ body.ops → flow ≡ flow' →
-    Advances C (get_or xs pc d).at (item_of ts (get_or xs pc d).code) w now w' next flow → Advances C (get_or body.ops pc d).at (item_of body.targets (get_or body.ops pc d).code) w now w' next flow'
-advance_of C body ts xs pc d w w' flow flow' now next targets ops is a =
-    let b : Advances C (get_or xs pc d).at (item_of ts (get_or xs pc d).code) w now w' next flow' = subst (λ f. Advances C (get_or xs pc d).at (item_of ts (get_or xs pc d).code) w now w' next f) is a in
-    let c : Advances C (get_or xs pc d).at (item_of body.targets (get_or xs pc d).code) w now w' next flow' = subst (λ t. Advances C (get_or xs pc d).at (item_of t (get_or xs pc d).code) w now w' next flow') targets b in
-    subst (λ os. Advances C (get_or os pc d).at (item_of body.targets (get_or os pc d).code) w now w' next flow') ops c
+advance_of : (C : Ctx) (p : Bool) (body : Body) (ts : List ℕ) (xs : List Op) (pc : ℕ) (d : Op) (w w' : Walking) (flow flow' : Flow) (now next : Written) → ts ≡ body.targets → xs ≡ body.ops → flow ≡ flow' →
+    Advances C p (get_or xs pc d).at (item_of ts (get_or xs pc d).code) w now w' next flow → Advances C p (get_or body.ops pc d).at (item_of body.targets (get_or body.ops pc d).code) w now w' next flow'
+advance_of C p body ts xs pc d w w' flow flow' now next targets ops is a =
+    let b : Advances C p (get_or xs pc d).at (item_of ts (get_or xs pc d).code) w now w' next flow' = subst (λ f. Advances C p (get_or xs pc d).at (item_of ts (get_or xs pc d).code) w now w' next f) is a in
+    let c : Advances C p (get_or xs pc d).at (item_of body.targets (get_or xs pc d).code) w now w' next flow' = subst (λ t. Advances C p (get_or xs pc d).at (item_of t (get_or xs pc d).code) w now w' next flow') targets b in
+    subst (λ os. Advances C p (get_or os pc d).at (item_of body.targets (get_or os pc d).code) w now w' next flow') ops c
 
-pub goes_next : (C : Ctx) (body : Body) (ts : List ℕ) (xs : List Op) (start : Written) (whole : Nodes) (pc : ℕ) (d : Op) (w w' : Walking) (flow : Flow) {now next : Written} → ts ≡ body.targets → xs ≡ body.ops → flow ≡ Next →
-    Advances C (get_or xs pc d).at (item_of ts (get_or xs pc d).code) w now w' next flow → Rewrites C (code_in body) start whole pc w now → Rewrites C (code_in body) start whole (pc + 1) w' next
-goes_next C body ts xs start whole pc d w w' flow {now} {next} targets ops is a r =
+pub goes_next : (C : Ctx) (p : Bool) (body : Body) (ts : List ℕ) (xs : List Op) (start : Written) (whole : Nodes) (pc : ℕ) (d : Op) (w w' : Walking) (flow : Flow) {now next : Written} → ts ≡ body.targets → xs ≡ body.ops → flow ≡ Next →
+    Advances C p (get_or xs pc d).at (item_of ts (get_or xs pc d).code) w now w' next flow → ((targets : List ℕ) → Passes C (drop (pc + 1) (code_of targets xs)) p) → Rewrites C (code_in body) start whole pc w now → Rewrites C (code_in body) start whole (pc + 1) w' next
+goes_next C p body ts xs start whole pc d w w' flow {now} {next} targets ops is a q r =
     let lt : pc < length body.ops = stands_inside C body start whole pc w now r in
     let one : suc pc ≡ pc + 1 = omega arith in
-    subst (λ n. Rewrites C (code_in body) start whole n w' next) one (advance_of C body ts xs pc d w w' flow Next now next targets ops is a (code_in body) start whole pc (begins_read body.targets body.ops pc d lt) r)
+    subst (λ n. Rewrites C (code_in body) start whole n w' next) one (advance_of C p body ts xs pc d w w' flow Next now next targets ops is a (code_in body) start whole pc (begins_read body.targets body.ops pc d lt) (passes_behind C body p pc xs ops q) r)
 
-pub goes_out : (C : Ctx) (body : Body) (ts : List ℕ) (xs : List Op) (start : Written) (whole : Nodes) (pc to : ℕ) (d : Op) (w w' : Walking) (flow : Flow) {now next : Written} → ts ≡ body.targets → xs ≡ body.ops → flow ≡ Ends →
-    Advances C (get_or xs pc d).at (item_of ts (get_or xs pc d).code) w now w' next flow → pc ≤ to →
+pub goes_out : (C : Ctx) (p : Bool) (body : Body) (ts : List ℕ) (xs : List Op) (start : Written) (whole : Nodes) (pc to : ℕ) (d : Op) (w w' : Walking) (flow : Flow) {now next : Written} → ts ≡ body.targets → xs ≡ body.ops → flow ≡ Ends →
+    Advances C p (get_or xs pc d).at (item_of ts (get_or xs pc d).code) w now w' next flow → ((targets : List ℕ) → Passes C (drop (pc + 1) (code_of targets xs)) p) → pc ≤ to →
     ((targets : List ℕ) (nodes : Nodes) (dues : List Due) → drop pc (code_of targets xs) ≡ write nodes (flat dues) → drop to (code_of targets xs) ≡ flat dues) → Rewrites C (code_in body) start whole pc w now → Left C (code_in body) start whole to w' next
-goes_out C body ts xs start whole pc to d w w' flow {now} {next} targets ops is a le end r =
+goes_out C p body ts xs start whole pc to d w w' flow {now} {next} targets ops is a q le end r =
     let lt : pc < length body.ops = stands_inside C body start whole pc w now r in
     let ends : EndsAt (code_in body) pc to = subst (λ os. EndsAt (code_of body.targets os) pc to) ops (end body.targets) in
-    advance_of C body ts xs pc d w w' flow Ends now next targets ops is a (code_in body) start whole pc (begins_read body.targets body.ops pc d lt) r to ends le
+    advance_of C p body ts xs pc d w w' flow Ends now next targets ops is a (code_in body) start whole pc (begins_read body.targets body.ops pc d lt) (passes_behind C body p pc xs ops q) r to ends le
 
 pub shallow : (C : Ctx) (body : Body) (start : Written) (whole : Nodes) (pc : ℕ) (w : Walking) (now : Written) → length body.ops + most_landings + 1 < 2 ^ 32 → Rewrites C (code_in body) start whole pc w now → length w.opens + most_landings + 2 < 2 ^ 32
 shallow C body start whole pc w now few r = omega (arith, few, stands_inside C body start whole pc w now r, r.stands.shallow)

@@ -67,18 +67,19 @@ pub fn open_if(
     writer.open_if(gives)
 }
 
-/// `end`, behind which the block's result is kept, over so many operands.
+/// `end`, behind which the block's result is kept, over so many operands, or passes.
 pub fn close_block(
     context: &FunctionContext<'_, '_>,
     writer: &mut CodeWriter,
+    passing: bool,
     gives: Option<ValType>,
     height: usize,
 ) -> Result<(), NoMemory>
     requires { height ≤ context.now.slots }
     ensures { (places : List PlaceOf) → length places ≡ height
-        → OnOk result (ClosesBefore (keep context.now (option_map SpilledOf gives) places)
+        → OnOk result (ClosesBefore (keep passing context.now (option_map SpilledOf gives) places)
         writer.old writer.new) }
 {
     writer.close()?;
-    context.keep_result(writer, gives, height)
+    context.keep_result(writer, passing, gives, height)
 }

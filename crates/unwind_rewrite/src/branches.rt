@@ -1,6 +1,6 @@
 //! Branches, which stand as they are, and `unreachable`.
 
-ghost use Rattle.std.specs.Prelude.{◌≡◌, ℕ, ◌+◌, ◌^◌, ◌<◌, ◌≤◌, List, length, OnOk};
+ghost use Rattle.std.specs.Prelude.{◌≡◌, ℕ, ◌+◌, ◌^◌, ◌<◌, ◌≤◌, Bool, List, length, OnOk};
 ghost use Rattle.wasm_syntax.specs.Tree.{Nodes, BrTable, Unreachable, stop, jump};
 ghost use Rattle.rewrite_bodies.specs.calls.Landings.{most_landings};
 ghost use Rattle.rewrite_bodies.specs.calls.Slots.{Place as PlaceOf};
@@ -37,9 +37,9 @@ pub fn trap(
 ) -> Result<(), NoMemory>
     requires shallow { site.now.labels + most_landings + 1 < 2 ^ 32 }
     requires room { length site.now.places.now ≤ context.now.slots }
-    ensures { (go : List PlaceOf → Nodes)
+    ensures { (passing : Bool) (go : List PlaceOf → Nodes)
         → OnOk result (EmitsLast (control context.now site.now.labels site.now.places.now
-        site.now.offset Unreachable go) writer.old writer.new) }
+        site.now.offset Unreachable passing go) writer.old writer.new) }
 {
     guard_unreachable(writer)?;
     writer.open_if(None)?;

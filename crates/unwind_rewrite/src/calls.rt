@@ -47,13 +47,15 @@ fn after_call(
     requires shallow { site.now.labels + most_landings + 1 < 2 ^ 32 }
     requires room { length site.now.places.now ≤ context.now.slots }
     ensures { OnOk result (Emits (λ k. after_call context.now site.now.labels gives
-        (less count site.now.places.now) site.now.offset (λ es. k)) writer.old writer.new) }
+        (less count site.now.places.now) site.now.offset site.now.passing (λ es. k)) writer.old
+        writer.new) }
 {
-    keep_left(context, writer, gives, site.places, count)?;
+    keep_left(context, writer, site.passing, gives, site.places, count)?;
     test_flag(context, writer, site, count)
 }
 
-/// Behind the call of a function. An import cannot come back with the flag up.
+/// Behind the call of a function. An import cannot come back with the flag up, but its host may
+/// have made the memory longer.
 fn after_direct(
     context: &FunctionContext<'_, '_>,
     writer: &mut CodeWriter,
@@ -65,13 +67,14 @@ fn after_direct(
     requires room { length site.now.places.now ≤ context.now.slots }
     ensures { OnOk result (Emits (λ k. after_direct (nat_lt function (import_count context.now.source))
         context.now site.now.labels (result_of ftype.now)
-        (less (length ftype.now.params) site.now.places.now) site.now.offset (λ es. k)) writer.old
-        writer.new) }
+        (less (length ftype.now.params) site.now.places.now) site.now.offset site.now.passing
+        (λ es. k)) writer.old writer.new) }
 {
     let count = ftype.params.len();
     let gives = ftype.result_type();
     if is_imported(context, function) {
-        keep_left(context, writer, gives, site.places, count)
+        context.renew(writer)?;
+        keep_left(context, writer, site.passing, gives, site.places, count)
     } else {
         after_call(context, writer, site, count, gives)
     }
@@ -89,7 +92,8 @@ pub fn call_function(
     requires shallow { site.now.labels + most_landings + 1 < 2 ^ 32 }
     requires room { length site.now.places.now ≤ context.now.slots }
     ensures { OnOk result (Emits (λ k. call_code context.now site.now.labels site.now.places.now
-        site.now.offset function (Some ftype.now) (λ es. k)) writer.old writer.new) }
+        site.now.offset function (Some ftype.now) site.now.passing (λ es. k)) writer.old
+        writer.new) }
 {
     writer.call(context.map().function(function))?;
     after_direct(context, writer, site, function, ftype)
@@ -178,5 +182,6 @@ pub fn call_through_table(
     writer.close()?;
     test_both(context, writer, site, count)?;
     drops(writer, count)?;
+    context.renew(writer)?;
     reload_left(context, writer, gives, places, count)
 }

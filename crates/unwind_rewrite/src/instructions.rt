@@ -1,6 +1,6 @@
 //! Instructions in live code, and the ends of lists.
 
-ghost use Rattle.std.specs.Prelude.{◌≡◌, ℕ, ◌+◌, ◌^◌, ◌<◌, ◌≤◌, ◌∷◌, List, length, IfOk, OnOk};
+ghost use Rattle.std.specs.Prelude.{◌≡◌, ℕ, ◌+◌, ◌^◌, ◌<◌, ◌≤◌, ◌∷◌, Bool, List, length, IfOk, OnOk};
 ghost use Rattle.wasm_syntax.specs.Tree.{Plain, Opens, OpensLoop, OpensIf, Else as ElseOf, End as EndOf, item_of};
 ghost use Rattle.rewrite_bodies.specs.calls.Landings.{most_landings};
 ghost use Rattle.rewrite_bodies.specs.calls.Slots.{Ctx as CtxOf};
@@ -22,13 +22,14 @@ fn write_basic(
     walk: &mut Walk,
     parts: &ModuleParts,
     offset: u32,
+    passing: bool,
     basic: Basic,
 ) -> Result<Flow, NoMemory>
     requires source { parts.now ≡ context.now.source }
     requires shallow { length walk.old.opens + most_landings + 2 < 2 ^ 32 }
     requires room { length walk.old.places ≤ context.now.slots }
-    ensures { IfOk result (Advances context.now offset (Plain basic) walk.old writer.old walk.new
-        writer.new) }
+    ensures { IfOk result (Advances context.now passing offset (Plain basic) walk.old writer.old
+        walk.new writer.new) }
 {
     let taken = takes(basic);
     let gives = result_place(context.locals(), parts, walk.places(), basic);
@@ -40,6 +41,7 @@ fn write_basic(
             labels,
             places: walk.places(),
             offset,
+            passing,
         },
         basic,
         taken,
@@ -57,8 +59,8 @@ fn write_block(
     gives: Option<ValType>,
 ) -> Result<Flow, NoMemory>
     requires { length walk.old.places ≤ context.now.slots }
-    ensures { (o : ℕ) → IfOk result
-        (Advances context.now o (Opens gives) walk.old writer.old walk.new writer.new) }
+    ensures { (passing : Bool) (o : ℕ) → IfOk result
+        (Advances context.now passing o (Opens gives) walk.old writer.old walk.new writer.new) }
 {
     open_block(context, writer, gives, walk.places())?;
     walk.open(Label::Block(gives))?;
@@ -73,8 +75,8 @@ fn write_loop(
     gives: Option<ValType>,
 ) -> Result<Flow, NoMemory>
     requires { length walk.old.places ≤ context.now.slots }
-    ensures { (o : ℕ) → IfOk result
-        (Advances context.now o (OpensLoop gives) walk.old writer.old walk.new writer.new) }
+    ensures { (passing : Bool) (o : ℕ) → IfOk result
+        (Advances context.now passing o (OpensLoop gives) walk.old writer.old walk.new writer.new) }
 {
     open_loop(context, writer, gives, walk.places())?;
     walk.open(Label::Loop(gives))?;
@@ -89,8 +91,8 @@ fn write_if(
     gives: Option<ValType>,
 ) -> Result<Flow, NoMemory>
     requires { length walk.old.places ≤ context.now.slots }
-    ensures { (o : ℕ) → IfOk result
-        (Advances context.now o (OpensIf gives) walk.old writer.old walk.new writer.new) }
+    ensures { (passing : Bool) (o : ℕ) → IfOk result
+        (Advances context.now passing o (OpensIf gives) walk.old writer.old walk.new writer.new) }
 {
     walk.perform(1, None)?;
     open_if(context, writer, gives, walk.places())?;
@@ -98,7 +100,8 @@ fn write_if(
     Ok(Flow::Next)
 }
 
-/// A live instruction, in a body with these targets; an `else` or `end` leaves its list.
+/// A live instruction, in a body with these targets, whose result passes to the next one, or not; an
+/// `else` or `end` leaves its list.
 pub(crate) fn write_live(
     context: &FunctionContext<'_, '_>,
     writer: &mut CodeWriter,
@@ -106,18 +109,21 @@ pub(crate) fn write_live(
     parts: &ModuleParts,
     targets: &[u32],
     op: Op,
+    passing: bool,
 ) -> Result<Flow, NoMemory>
     requires source { parts.now ≡ context.now.source }
     requires helpers { HasHelpers context.now }
     requires helped { Helped context.now op.code }
     requires shallow { length walk.old.opens + most_landings + 2 < 2 ^ 32 }
     requires room { length walk.old.places ≤ context.now.slots }
-    ensures { IfOk result (Advances context.now op.at (item_of targets.now op.code) walk.old
+    ensures { IfOk result (Advances context.now passing op.at (item_of targets.now op.code) walk.old
         writer.old walk.new writer.new) }
 {
     match op.code {
-        Instr::Basic(basic) => write_basic(context, writer, walk, parts, op.at, basic),
-        Instr::Jump(jump) => write_jump(context, writer, walk, parts, targets, op.at, jump),
+        Instr::Basic(basic) => write_basic(context, writer, walk, parts, op.at, passing, basic),
+        Instr::Jump(jump) => {
+            write_jump(context, writer, walk, parts, targets, op.at, passing, jump)
+        }
         Instr::Block(gives) => write_block(context, writer, walk, gives),
         Instr::Loop(gives) => write_loop(context, writer, walk, gives),
         Instr::If(gives) => write_if(context, writer, walk, gives),
@@ -128,7 +134,8 @@ pub(crate) fn write_live(
 
 /// `else`, behind the first arm.
 fn write_else(writer: &mut CodeWriter, walk: &mut Walk) -> Result<(), NoMemory>
-    ensures { (C : CtxOf) → OnOk result (Resumes C ElseOf walk.old writer.old walk.new writer.new) }
+    ensures { (C : CtxOf) (passing : Bool) → OnOk result
+        (Resumes C passing ElseOf walk.old writer.old walk.new writer.new) }
 {
     writer.alternate()?;
     walk.alternate()
@@ -139,13 +146,16 @@ fn write_end(
     context: &FunctionContext<'_, '_>,
     writer: &mut CodeWriter,
     walk: &mut Walk,
+    passing: bool,
 ) -> Result<(), NoMemory>
     requires open { 1 ≤ length walk.old.opens }
     requires room { (block : OpenBlockOf) (others : List OpenBlockOf)
         → walk.old.opens ≡ block ∷ others → length block.saved ≤ context.now.slots }
-    ensures { OnOk result (Resumes context.now EndOf walk.old writer.old walk.new writer.new) }
+    ensures { OnOk result (Resumes context.now passing EndOf walk.old writer.old walk.new
+        writer.new) }
 {
-    close_block(context, writer, walk.innermost().end_gives(), walk.below())?;
+    let gives = walk.innermost().end_gives();
+    close_block(context, writer, passing, gives, walk.below())?;
     walk.close()
 }
 
@@ -155,16 +165,18 @@ pub(crate) fn write_behind(
     writer: &mut CodeWriter,
     walk: &mut Walk,
     code: Instr,
+    passing: bool,
 ) -> Result<(), NoMemory>
     requires behind { IsBehind code }
     requires open { 1 ≤ length walk.old.opens }
     requires room { (block : OpenBlockOf) (others : List OpenBlockOf)
         → walk.old.opens ≡ block ∷ others → length block.saved ≤ context.now.slots }
     ensures { (targets : List ℕ) → OnOk result
-        (Resumes context.now (item_of targets code) walk.old writer.old walk.new writer.new) }
+        (Resumes context.now passing (item_of targets code) walk.old writer.old walk.new
+        writer.new) }
 {
     match code {
         Instr::Else => write_else(writer, walk),
-        _ => write_end(context, writer, walk),
+        _ => write_end(context, writer, walk, passing),
     }
 }

@@ -1,6 +1,6 @@
 //! Control instructions that hold no others.
 
-ghost use Rattle.std.specs.Prelude.{◌≡◌, ℕ, ◌+◌, ◌^◌, ◌<◌, ◌≤◌, true, length, take, drop, IfOk};
+ghost use Rattle.std.specs.Prelude.{◌≡◌, ℕ, ◌+◌, ◌^◌, ◌<◌, ◌≤◌, Bool, true, length, take, drop, IfOk};
 ghost use Rattle.wasm_syntax.specs.Tree.{Goes, Br as BrOf, BrIf as BrIfOf, BrTable as BrTableOf, Return as ReturnOf};
 ghost use Rattle.wasm_syntax.specs.Tree.{Unreachable as UnreachableOf, Call as CallOf, CallIndirect as CallIndirectOf};
 ghost use Rattle.wasm_syntax.specs.Tree.{jump_of};
@@ -29,8 +29,8 @@ fn targets_at(targets: &[u32], start: u32, count: u32) -> &[u32]
 
 /// `br`.
 fn write_branch(writer: &mut CodeWriter, label: u32) -> Result<Flow, NoMemory>
-    ensures { (C : CtxOf) (o : ℕ) (w : WalkingOf) → IfOk result
-        (Advances C o (Goes (BrOf label)) w writer.old w writer.new) }
+    ensures { (C : CtxOf) (passing : Bool) (o : ℕ) (w : WalkingOf) → IfOk result
+        (Advances C passing o (Goes (BrOf label)) w writer.old w writer.new) }
 {
     writer.branch(label)?;
     Ok(Flow::Ends)
@@ -38,8 +38,8 @@ fn write_branch(writer: &mut CodeWriter, label: u32) -> Result<Flow, NoMemory>
 
 /// `br_if`, behind which the code goes on.
 fn write_branch_if(writer: &mut CodeWriter, walk: &mut Walk, label: u32) -> Result<Flow, NoMemory>
-    ensures { (C : CtxOf) (o : ℕ) → IfOk result
-        (Advances C o (Goes (BrIfOf label)) walk.old writer.old walk.new writer.new) }
+    ensures { (C : CtxOf) (passing : Bool) (o : ℕ) → IfOk result
+        (Advances C passing o (Goes (BrIfOf label)) walk.old writer.old walk.new writer.new) }
 {
     writer.branch_if(label)?;
     walk.perform(1, None)?;
@@ -52,8 +52,8 @@ fn write_branch_table(
     targets: &[u32],
     default_label: u32,
 ) -> Result<Flow, NoMemory>
-    ensures { (C : CtxOf) (o : ℕ) (w : WalkingOf) → IfOk result
-        (Advances C o (Goes (BrTableOf targets.now default_label)) w writer.old w writer.new) }
+    ensures { (C : CtxOf) (passing : Bool) (o : ℕ) (w : WalkingOf) → IfOk result
+        (Advances C passing o (Goes (BrTableOf targets.now default_label)) w writer.old w writer.new) }
 {
     branch_table(writer, targets, default_label)?;
     Ok(Flow::Ends)
@@ -61,8 +61,8 @@ fn write_branch_table(
 
 /// `return`.
 fn write_return(writer: &mut CodeWriter) -> Result<Flow, NoMemory>
-    ensures { (C : CtxOf) (o : ℕ) (w : WalkingOf) → IfOk result
-        (Advances C o (Goes ReturnOf) w writer.old w writer.new) }
+    ensures { (C : CtxOf) (passing : Bool) (o : ℕ) (w : WalkingOf) → IfOk result
+        (Advances C passing o (Goes ReturnOf) w writer.old w writer.new) }
 {
     writer.return_values()?;
     Ok(Flow::Ends)
@@ -77,8 +77,8 @@ fn write_trap(
 ) -> Result<Flow, NoMemory>
     requires shallow { length walk.now.opens + most_landings + 2 < 2 ^ 32 }
     requires room { length walk.now.places ≤ context.now.slots }
-    ensures { IfOk result (Advances context.now offset (Goes UnreachableOf) walk.now writer.old
-        walk.now writer.new) }
+    ensures { (passing : Bool) → IfOk result (Advances context.now passing offset
+        (Goes UnreachableOf) walk.now writer.old walk.now writer.new) }
 {
     trap(
         context,
@@ -87,6 +87,7 @@ fn write_trap(
             labels: walk.depth() as u32,
             places: walk.places(),
             offset,
+            passing: false,
         },
     )?;
     Ok(Flow::Ends)
@@ -99,13 +100,14 @@ fn write_call(
     walk: &mut Walk,
     parts: &ModuleParts,
     offset: u32,
+    passing: bool,
     function: u32,
 ) -> Result<Flow, NoMemory>
     requires source { parts.now ≡ context.now.source }
     requires shallow { length walk.old.opens + most_landings + 2 < 2 ^ 32 }
     requires room { length walk.old.places ≤ context.now.slots }
-    ensures { IfOk result (Advances context.now offset (Goes (CallOf function)) walk.old writer.old
-        walk.new writer.new) }
+    ensures { IfOk result (Advances context.now passing offset (Goes (CallOf function)) walk.old
+        writer.old walk.new writer.new) }
 {
     let Some(ftype) = parts.type_of(function as usize) else {
         return Ok(Flow::Ends);
@@ -118,6 +120,7 @@ fn write_call(
             labels,
             places: walk.places(),
             offset,
+            passing,
         },
         function,
         ftype,
@@ -140,8 +143,8 @@ fn write_call_indirect(
     requires helped { is_in index (types_used context.now.source) ≡ true }
     requires shallow { length walk.old.opens + most_landings + 2 < 2 ^ 32 }
     requires room { length walk.old.places ≤ context.now.slots }
-    ensures { IfOk result (Advances context.now offset (Goes (CallIndirectOf index)) walk.old
-        writer.old walk.new writer.new) }
+    ensures { (passing : Bool) → IfOk result (Advances context.now passing offset
+        (Goes (CallIndirectOf index)) walk.old writer.old walk.new writer.new) }
 {
     let Some(ftype) = parts.types.get(index as usize) else {
         return Ok(Flow::Ends);
@@ -160,6 +163,7 @@ fn write_call_indirect(
             labels,
             places: walk.places(),
             offset,
+            passing: false,
         },
         numbers,
         ftype,
@@ -176,6 +180,7 @@ pub(crate) fn write_jump(
     parts: &ModuleParts,
     targets: &[u32],
     offset: u32,
+    passing: bool,
     jump: Jump,
 ) -> Result<Flow, NoMemory>
     requires source { parts.now ≡ context.now.source }
@@ -183,8 +188,8 @@ pub(crate) fn write_jump(
     requires helped { JumpHelped context.now jump }
     requires shallow { length walk.old.opens + most_landings + 2 < 2 ^ 32 }
     requires room { length walk.old.places ≤ context.now.slots }
-    ensures { IfOk result (Advances context.now offset (Goes (jump_of targets.now jump)) walk.old
-        writer.old walk.new writer.new) }
+    ensures { IfOk result (Advances context.now passing offset (Goes (jump_of targets.now jump))
+        walk.old writer.old walk.new writer.new) }
 {
     match jump {
         Jump::Unreachable => write_trap(context, writer, walk, offset),
@@ -195,7 +200,9 @@ pub(crate) fn write_jump(
             write_branch_table(writer, own, default_label)
         }
         Jump::Return => write_return(writer),
-        Jump::Call(function) => write_call(context, writer, walk, parts, offset, function),
+        Jump::Call(function) => {
+            write_call(context, writer, walk, parts, offset, passing, function)
+        }
         Jump::CallIndirect(ftype) => {
             write_call_indirect(context, writer, walk, parts, offset, ftype)
         }

@@ -15,19 +15,21 @@ use causes::NoMemory;
 use rewrite_code::{CodeWriter, FunctionContext, OperandPlaces};
 use wasm_syntax::{Basic, Binary, ValType, Value};
 
-/// A result on the stack is kept over the operands under so many.
+/// A result on the stack is kept over the operands under so many, or passes.
 pub(crate) fn keep_left(
     context: &FunctionContext<'_, '_>,
     writer: &mut CodeWriter,
+    passing: bool,
     gives: Option<ValType>,
     places: &OperandPlaces,
     count: usize,
 ) -> Result<(), NoMemory>
     requires { length places.now ≤ context.now.slots }
-    ensures { OnOk result (Emits (keep context.now (option_map SpilledOf gives)
+    ensures { OnOk result (Emits (keep passing context.now (option_map SpilledOf gives)
         (less count places.now)) writer.old writer.new) }
 {
-    context.keep_result(writer, gives, places.len().saturating_sub(count))
+    let height = places.len().saturating_sub(count);
+    context.keep_result(writer, passing, gives, height)
 }
 
 /// A result comes back from its slot over the operands under so many.

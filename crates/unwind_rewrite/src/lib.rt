@@ -13,6 +13,7 @@ mod jumps;
 mod left;
 mod locals;
 mod nodes;
+mod passing;
 mod plain;
 mod points;
 mod site;

@@ -11,6 +11,7 @@ ghost use Rattle.unwind_rewrite.specs.declared.points.Point.TheVariants.{Live, E
 ghost use Rattle.unwind_rewrite.specs.calls.Points.{BeforeLast, CanBeWritten, Holds, Stood, code_in, is_last, left_of};
 
 use crate::instructions::{write_behind, write_live};
+use crate::passing::passes;
 use crate::points::Point;
 use causes::NoMemory;
 use operand_spill::{Flow, Walk, end_of_list};
@@ -41,7 +42,8 @@ fn write_from_live(
     let ops = body.ops.as_slice();
     let targets = body.targets.as_slice();
     let op = ops[index];
-    match write_live(context, writer, walk, parts, targets, op)? {
+    let passing = passes(context, ops, index + 1);
+    match write_live(context, writer, walk, parts, targets, op, passing)? {
         Flow::Next => Ok(Point::Live(index + 1)),
         Flow::Ends => Ok(Point::Ended(end_of_list(ops, index))),
     }
@@ -63,8 +65,10 @@ fn write_from_end(
     ensures less { IfOk result (λ p. left_of (length body.now.ops) p
         < left_of (length body.now.ops) (Ended index)) }
 {
-    let op = body.ops.as_slice()[index];
-    write_behind(context, writer, walk, op.code)?;
+    let ops = body.ops.as_slice();
+    let op = ops[index];
+    let passing = passes(context, ops, index + 1);
+    write_behind(context, writer, walk, op.code, passing)?;
     Ok(Point::Live(index + 1))
 }
 

@@ -6,7 +6,7 @@ ghost use Rattle.wasm_syntax.specs.Tree.{basic};
 ghost use Rattle.rewrite_bodies.specs.calls.Landings.{most_landings};
 ghost use Rattle.rewrite_bodies.specs.calls.Slots.{less, result_place};
 ghost use Rattle.rewrite_bodies.specs.calls.Pieces.{keep};
-ghost use Rattle.rewrite_bodies.specs.calls.Rewrite.{free, plain};
+ghost use Rattle.rewrite_bodies.specs.calls.Rewrite.{free, grows, lengthened, plain};
 ghost use Rattle.rewrite_code.specs.calls.Writing.{Emits};
 ghost use Rattle.rewrite_code.specs.calls.Places.{place};
 
@@ -36,7 +36,22 @@ fn free(
     }
 }
 
-/// The instruction, which takes so many operands and gives this.
+/// Behind an instruction that changes the length of the memory.
+fn lengthened(
+    context: &FunctionContext<'_, '_>,
+    writer: &mut CodeWriter,
+    instruction: Basic,
+) -> Result<(), NoMemory>
+    ensures { OnOk result (Emits (lengthened (grows instruction) context.now) writer.old
+        writer.new) }
+{
+    match instruction {
+        Basic::MemoryGrow => context.set_length(writer),
+        _ => Ok(()),
+    }
+}
+
+/// The instruction, which takes so many operands and gives this, which is kept or passes.
 fn on_operands(
     context: &FunctionContext<'_, '_>,
     writer: &mut CodeWriter,
@@ -44,15 +59,19 @@ fn on_operands(
     instruction: Basic,
     taken: usize,
     gives: Option<OperandPlace>,
+    passing: bool,
 ) -> Result<(), NoMemory>
     requires { length places.now ≤ context.now.slots }
     ensures { OnOk result (Emits (λ k. free context.now instruction (less taken places.now)
-        (basic 0 instruction (keep context.now (option_map place gives) (less taken places.now) k)))
+        (basic 0 instruction (lengthened (grows instruction) context.now
+        (keep passing context.now (option_map place gives) (less taken places.now) k))))
         writer.old writer.new) }
 {
     free(context, writer, places, instruction, taken)?;
     writer.basic(instruction)?;
-    context.keep(writer, gives, places.len().saturating_sub(taken))
+    lengthened(context, writer, instruction)?;
+    let height = places.len().saturating_sub(taken);
+    context.keep(writer, passing, gives, height)
 }
 
 /// A basic instruction, which takes so many operands and gives this.
@@ -69,7 +88,7 @@ pub fn instruction(
     ensures { takes instruction ≡ taken
         → result_place context.now site.now.places.now instruction ≡ option_map place gives
         → OnOk result (Emits (λ k. plain context.now site.now.labels site.now.places.now
-        site.now.offset instruction (λ es. k)) writer.old writer.new) }
+        site.now.offset instruction site.now.passing (λ es. k)) writer.old writer.new) }
 {
     guarded(
         context,
@@ -79,5 +98,14 @@ pub fn instruction(
         site.offset,
         &instruction,
     )?;
-    on_operands(context, writer, site.places, instruction, taken, gives)
+    let places = site.places;
+    on_operands(
+        context,
+        writer,
+        places,
+        instruction,
+        taken,
+        gives,
+        site.passing,
+    )
 }

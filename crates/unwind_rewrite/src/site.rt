@@ -2,11 +2,13 @@
 
 use rewrite_code::OperandPlaces;
 
-/// How many labels are open around an instruction of a body, where the operands are before it, and
-/// its code offset.
+/// How many labels are open around an instruction of a body, where the operands are before it, its
+/// code offset, and whether the next instruction takes what it leaves, before anything is handed
+/// over.
 #[derive(Drop)]
 pub struct Site<'p> {
     pub labels: u32,
     pub places: &'p OperandPlaces,
     pub offset: u32,
+    pub passing: bool,
 }

@@ -13,7 +13,7 @@ ghost use Rattle.rewrite_code.specs.calls.Writing.{Emits, EmitsLast};
 
 use causes::NoMemory;
 use index_map::IndexMap;
-use rewrite_code::CodeWriter;
+use rewrite_code::{CodeWriter, renew};
 use wasm_syntax::{Basic, Global, ValType, Value};
 
 /// The flag, which has this index, is set to a number.
@@ -128,6 +128,7 @@ pub fn wrapper(
         writer.new) }
 {
     set_flag(writer, map.flag(), 0)?;
+    renew(map, writer)?;
     get_all(writer, parameters)?;
     writer.call(map.function(function))?;
     after_wrapped(map, writer, globals)

@@ -3,6 +3,7 @@ use Rattle.std.specs.Prelude.{◌≡◌, ℕ, ◌+◌, ◌<◌, ◌^◌, Bool, L
 use Rattle.wasm_syntax.specs.declared.module.ModuleParts.{ModuleParts as Module}
 use Rattle.wasm_syntax.specs.Module.{function_types}
 use Rattle.rewrite_bodies.specs.Numbering.{export_wrapped, named_wrapped, wrapped, entry_weight, element_functions, table_functions, doubles, flag_of, helper_base}
+use Rattle.rewrite_bodies.specs.calls.Guards.{length_of}
 use Rattle.rewrite_modules.specs.calls.Instrument.{new_exports}
 use Rattle.rewrite_modules.specs.Weight.{types_used}
 use Rattle.index_map.specs.inner.Used.{AllBelow, bodies_used, behind}
@@ -11,6 +12,7 @@ use Rattle.index_map.specs.inner.Used.{AllBelow, bodies_used, behind}
 pub record FewIndices (m : Module) : Type 0 where
   pub functions : helper_base m + length (types_used m) < 2 ^ 32
   pub globals : flag_of m < 2 ^ 32
+  pub added : length_of m < 2 ^ 32
 
 -- what is needed of a module
 pub record CanBeNumbered (m : Module) : Type 0 where

@@ -1,9 +1,11 @@
 -- The parts of a rewritten module, as code makes them of a module and of the bodies of its functions.
-use Rattle.std.specs.Prelude.{ℕ, ◌+◌, ◌<◌, List, [], ◌∷◌, ◌++◌, length, map, if◌then◌else◌, true, codes}
+use Rattle.std.specs.Prelude.{ℕ, ◌+◌, ◌*◌, ◌<◌, List, [], ◌∷◌, ◌++◌, length, map, if◌then◌else◌, true, codes}
 use Rattle.std.specs.List.{AllByRecursion}
 use Rattle.wasm_syntax.specs.declared.value.ValType.TheVariants.{I32, I64}
 use Rattle.wasm_syntax.specs.declared.instruction.Basic.TheVariants.{Const}
 use Rattle.wasm_syntax.specs.declared.instruction.Instr.TheVariants as instrs
+use Rattle.wasm_syntax.specs.declared.value.Value.{Value}
+use Rattle.wasm_syntax.specs.declared.value.Value.TheVariants as values
 use Rattle.wasm_syntax.specs.declared.parts.FuncType.{FuncType}
 use Rattle.wasm_syntax.specs.declared.parts.Import.{Import}
 use Rattle.wasm_syntax.specs.declared.parts.Global.{Global}
@@ -17,7 +19,7 @@ use Rattle.rewrite_bodies.specs.Numbering.{doubles, mapped, wrapped, value_type,
 use Rattle.rewrite_bodies.specs.calls.Pieces.{i32}
 use Rattle.rewrite_bodies.specs.calls.Guards.{helper_type}
 use Rattle.rewrite_modules.specs.Collector.{collector_import, memory_export}
-use Rattle.rewrite_modules.specs.calls.Instrument.{new_exports, new_start, shown_elements, wrapper_type}
+use Rattle.rewrite_modules.specs.calls.Instrument.{memory_min, new_exports, new_start, shown_elements, wrapper_type}
 use Rattle.rewrite_modules.specs.Interface.{new_tables}
 use Rattle.rewrite_modules.specs.Weight.{types_used}
 
@@ -28,18 +30,24 @@ more_types = value_type I32 ∷ value_type I64 ∷ frame_type ∷ helper_type �
 abbrev pub more_imports : ℕ → List Import
 more_imports t = collector_import (codes "value_i32") t ∷ collector_import (codes "value_i64") (t + 1) ∷ collector_import (codes "frame") (t + 2) ∷ []
 
--- the constant expression of a number, at the offsets of their numbers
-abbrev pub number_code : ℕ → Body
-number_code n = record {
+-- the constant expressions of a value, and of a number, at the offsets of their numbers
+abbrev pub value_code : Value → Body
+value_code v = record {
   groups = [];
-  ops = record { at = 0; len = 0; code = instrs.Basic (Const (i32 n)) } ∷ record { at = 1; len = 0; code = instrs.End } ∷ [];
+  ops = record { at = 0; len = 0; code = instrs.Basic (Const v) } ∷ record { at = 1; len = 0; code = instrs.End } ∷ [];
   targets = [];
   start = 0;
 }
 
--- the flag
+abbrev pub number_code : ℕ → Body
+number_code n = value_code (i32 n)
+
+-- the flag, and the length of the memory
 abbrev pub flag : Global
 flag = record { vtype = I32; mutable = true; init = number_code 0 }
+
+abbrev pub measure : Module → Global
+measure m = record { vtype = I64; mutable = true; init = value_code (values.I64 (65536 * memory_min m.memories)) }
 
 -- the functions of an element are functions of the module
 abbrev pub ElementThere : Module → ElementSeg → Type 0
@@ -69,7 +77,7 @@ new_parts m bodies = record {
   functions = m.functions ++ (map (wrapper_type m) (wrapped m) ++ map (λ u. length m.types + 3) (types_used m));
   tables = new_tables m;
   memories = m.memories;
-  globals = m.globals ++ flag ∷ [];
+  globals = m.globals ++ flag ∷ measure m ∷ [];
   exports = new_exports m 0 m.exports ++ memory_export m.memories;
   start = new_start m m.start;
   elements = written_elements m;

@@ -1,8 +1,8 @@
 -- Where a walk stands in a body: which nodes are left of the innermost list, and what is due behind it and behind each list around it.
-use Rattle.std.specs.Prelude.{◌≡◌, ℕ, zero, suc, ◌≤◌, List, [], ◌∷◌, ◌++◌, length, drop, Option, Some, None}
+use Rattle.std.specs.Prelude.{◌≡◌, ℕ, zero, suc, ◌≤◌, Bool, List, [], ◌∷◌, ◌++◌, length, drop, Option, Some, None}
 use Rattle.wasm_syntax.specs.Tree.{Nodes, stop, basic, jump, block, loop, choose, Item, Plain, Goes, Opens, OpensLoop, OpensIf, Else, End, Placed, placed, write}
 use Rattle.rewrite_bodies.specs.calls.Slots.{Place, Ctx}
-use Rattle.rewrite_bodies.specs.calls.Rewrite.{with_result, rewrite}
+use Rattle.rewrite_bodies.specs.calls.Rewrite.{passes, with_result, rewrite}
 use Rattle.rewrite_bodies.specs.calls.Typed.{end_gives}
 use Rattle.rewrite_bodies.specs.calls.Agreement.{Room}
 use Rattle.rewrite_code.specs.calls.Writing.{Written, Behind, ends, alternates, goes}
@@ -57,6 +57,10 @@ Armed (loop at t inner end rest) = Armed inner × Armed rest
 Armed (choose at t a None b end rest) = (t ≡ None) × (b ≡ stop) × Armed a × Armed rest
 Armed (choose at t a (Some else_at) b end rest) = Armed a × Armed b × Armed rest
 
+-- whether the topmost operand passes to the node that this code begins with
+abbrev pub Passes : Ctx → List Placed → Bool → Type 0
+Passes C code passing = (nodes : Nodes) (dues : List Due) → code ≡ write nodes (flat dues) → passing ≡ passes C nodes
+
 -- how many labels are open, with that of the body
 abbrev pub depth_in : Walking → ℕ
 depth_in w = suc (length w.opens)
@@ -81,7 +85,7 @@ Around C (o ∷ os) (before_else at other end rest ∷ ds) = Fine C o.saved othe
 
 -- the nodes behind an open block, rewritten
 abbrev pub rest_of : Ctx → OpenBlock → List OpenBlock → Nodes → Nodes
-rest_of C o os rest = with_result C (end_gives (info o.label)) o.saved (λ es. rewrite C (suc (length os)) es rest)
+rest_of C o os rest = with_result C (end_gives (info o.label)) o.saved (passes C rest) (λ es. rewrite C (suc (length os)) es rest)
 
 -- what is due in the rewritten code behind each open block; the end of the body is written apart
 abbrev pub due : Ctx → List OpenBlock → List Due → List Behind

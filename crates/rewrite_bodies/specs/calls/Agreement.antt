@@ -1,19 +1,19 @@
 -- The configuration of the rewritten module that stands for one of the original.
-use Rattle.std.specs.Prelude.{◌≡◌, ℕ, suc, ◌+◌, ◌*◌, ◌<◌, ◌≤◌, List, [], ◌∷◌, ◌++◌, length, Option, Some, None, slice_get}
+use Rattle.std.specs.Prelude.{◌≡◌, ℕ, suc, ◌+◌, ◌*◌, ◌<◌, ◌≤◌, List, [], ◌∷◌, ◌++◌, length, Option, Some, None, Bool, true, false, slice_get}
 use Rattle.wasm_syntax.specs.declared.value.ValType.{ValType}
 use Rattle.wasm_syntax.specs.declared.value.Value.{Value}
 use Rattle.wasm_syntax.specs.Numbers.{type_of, types}
 use Rattle.wasm_syntax.specs.Tree.{Nodes, basic, Jump, Unreachable, Br, BrIf, BrTable, Return, Call, CallIndirect, stop, jump, block, loop, choose}
 use Rattle.wasm_syntax.specs.Host.{World}
 use Rattle.wasm_syntax.specs.Machine.{Kind, Label, Frame, Config, label, frame, config, Engine, leaves, again, returns, zero_of, result_of}
-use Rattle.rewrite_bodies.specs.calls.Guards.{first_table}
-use Rattle.rewrite_bodies.specs.calls.Slots.{Place, Spilled, Known, Copied, Ctx, slot, kind_at, added, less, grown, under, result_type, after_plain, greatest, Landing}
+use Rattle.rewrite_bodies.specs.calls.Guards.{first_table, length_of, renew}
+use Rattle.rewrite_bodies.specs.calls.Slots.{Place, Spilled, Known, Copied, place_type, Ctx, slot, kind_at, added, less, grown, under, result_type, after_plain, greatest, Landing}
 use Rattle.rewrite_bodies.specs.calls.Pieces.{store, reload, drops}
 use Rattle.wasm_syntax.specs.declared.value.Value.TheVariants as values
 use Rattle.wasm_syntax.specs.declared.parts.FuncType.{FuncType}
 use Rattle.wasm_syntax.specs.Module.{type_at}
 use Rattle.wasm_syntax.specs.Effect.{takes}
-use Rattle.rewrite_bodies.specs.calls.Rewrite.{with_result, after_call, test_both, rewrite, exit_code, landing_code}
+use Rattle.rewrite_bodies.specs.calls.Rewrite.{with_result, after_call, passes, test_both, rewrite, exit_code, landing_code}
 use Rattle.rewrite_bodies.specs.Numbering.{mapped, place_in, global_types, helper_base, helped, new_entries}
 use Rattle.linear_memory.specs.Memory.{Memory}
 use Rattle.rewrite_bodies.specs.calls.Offsets.{SmallOffset}
@@ -32,6 +32,14 @@ Holds l ex js [] [] = Unit {0}
 Holds l ex js [] (e ∷ es) = ⊥
 Holds l ex js (v ∷ ops) [] = ⊥
 Holds l ex js (v ∷ ops) (e ∷ es) = One l ex (length (es ++ js)) e v × Holds l ex js ops es
+
+-- all but the topmost, where this is not kept
+abbrev pub HoldsBut : Bool → List Value → List Value → List Place → List Value → List Place → Type 0
+HoldsBut false l ex js ops es = Holds l ex js ops es
+HoldsBut true l ex js [] [] = Unit {0}
+HoldsBut true l ex js [] (e ∷ es) = ⊥
+HoldsBut true l ex js (v ∷ ops) [] = ⊥
+HoldsBut true l ex js (v ∷ ops) (e ∷ es) = (type_of v ≡ place_type e) × Holds l ex js ops es
 
 -- a call through the table that is under way: the code that would hand over its operands, and these, which are still there
 pub record UnderWay : Type 0 where
@@ -54,9 +62,9 @@ now = Arrives None
 
 -- what is still to be run in a label, inside so many
 abbrev pub code_at : Ctx → ℕ → List Place → Pending → Nodes → Nodes
-code_at C d es (Arrives a) rest = with_result C a es (λ es'. rewrite C d es' rest)
-code_at C d es (Called o r) rest = after_call C d r es o (λ es'. rewrite C d es' rest)
-code_at C d es (Through o r u) rest = test_both C d es o u.others (drops (length u.taken) (reload C r es (rewrite C d (grown r es) rest)))
+code_at C d es (Arrives a) rest = with_result C a es (passes C rest) (λ es'. rewrite C d es' rest)
+code_at C d es (Called o r) rest = after_call C d r es o (passes C rest) (λ es'. rewrite C d es' rest)
+code_at C d es (Through o r u) rest = test_both C d es o u.others (drops (length u.taken) (renew C.source (reload C r es (rewrite C d (grown r es) rest))))
 
 -- its operands besides the original's
 abbrev pub held : Pending → List Value → List Value
@@ -160,16 +168,27 @@ FitsLabels C l ex a (L ∷ Ls) [] = ⊥
 FitsLabels C l ex a (L ∷ Ls) (e ∷ ss) =
     Holds l ex (joined ss) L.operands e × FitsIn C a (e ++ joined ss) × Room C (grown a (e ++ joined ss)) L.nodes × KindFits C (joined ss) L.kind Ls × FitsLabels C [] ex (awaits (pending L.kind)) Ls ss
 
--- and there is one
-abbrev pub FitsOpen : Ctx → List Value → List Value → Option ValType → List Label → List (List Place) → Type 0
+-- and there is one, which goes on, or waits for the result of a call
+abbrev pub FitsOpen : Ctx → List Value → List Value → Option (Option ValType) → List Label → List (List Place) → Type 0
 FitsOpen C l ex a [] ss = ⊥
 FitsOpen C l ex a (L ∷ Ls) [] = ⊥
-FitsOpen C l ex a (L ∷ Ls) (e ∷ ss) = FitsLabels C l ex a (L ∷ Ls) (e ∷ ss)
+FitsOpen C l ex None (L ∷ Ls) (e ∷ ss) =
+    HoldsBut (passes C L.nodes) l ex (joined ss) L.operands e × FitsIn C None (e ++ joined ss) × Room C (e ++ joined ss) L.nodes × KindFits C (joined ss) L.kind Ls × FitsLabels C [] ex (awaits (pending L.kind)) Ls ss
+FitsOpen C l ex (Some a) (L ∷ Ls) (e ∷ ss) = FitsLabels C l ex a (L ∷ Ls) (e ∷ ss)
 
 -- whole pages, and not too many
 abbrev pub MemoryFits : Option Memory → Type 0
 MemoryFits None = Unit {0}
 MemoryFits (Some m) = (k : ℕ) × (length m.bytes ≡ 65536 * k) × (k ≤ 65535) × (m.max ≤ 65535)
+
+-- the length of the memory in bytes; 0 where there is none
+abbrev pub byte_count : Option Memory → ℕ
+byte_count None = 0
+byte_count (Some m) = length m.bytes
+
+-- the global of the length has that of this memory
+abbrev pub TellsLength : Ctx → World → Option Memory → Type 0
+TellsLength C w memory = slice_get w.globals (length_of C.source) ≡ Some (values.I64 (byte_count memory))
 
 -- under a call through the table, the guard gave no kind, and its operands had room
 abbrev pub NoKind : Ctx → List Value → Option UnderWay → Type 0
@@ -182,7 +201,7 @@ pub record WorldFits (M : Engine) (gl : List ValType) (w : World) : Type 0 where
   pub least : HasLeast M.program.module_.memories w.memory
   pub table : w.table ≡ first_table M.program.module_
 
-pub record FitsFrame (M : Engine) (E : ℕ) (gl : List ValType) (a : Option ValType) (F : Frame) (w : Wit) : Type 0 where
+pub record FitsFrame (M : Engine) (E : ℕ) (gl : List ValType) (a : Option (Option ValType)) (F : Frame) (w : Wit) : Type 0 where
   pub size : types F.locals ≡ w.ctx.locals
   pub room : types w.ex ≡ added w.ctx.slots
   pub idx : w.ctx.index ≡ F.function
@@ -201,7 +220,7 @@ abbrev pub FitsFrames : Engine → ℕ → List ValType → Option ValType → O
 FitsFrames M E gl wr r [] [] = r ≡ wr
 FitsFrames M E gl wr r [] (_ ∷ _) = ⊥
 FitsFrames M E gl wr r (F ∷ Fs) [] = ⊥
-FitsFrames M E gl wr r (F ∷ Fs) (w ∷ ws) = FitsFrame M E gl r F w × FitsFrames M E gl wr F.result Fs ws
+FitsFrames M E gl wr r (F ∷ Fs) (w ∷ ws) = FitsFrame M E gl (Some r) F w × FitsFrames M E gl wr F.result Fs ws
 
 abbrev pub FitsTop : Engine → ℕ → List ValType → Option ValType → List Frame → List Wit → Type 0
 FitsTop M E gl wr [] ws = ⊥
@@ -231,9 +250,13 @@ t_top W [] ws = []
 t_top W (F ∷ Fs) [] = []
 t_top W (F ∷ Fs) (w ∷ ws) = t_frame now F w ∷ t_frames W F.result Fs ws
 
--- the same world, with a flag behind the globals, and new indices in the table, behind what a host sees of it
+-- the same world, with others behind the globals, and new indices in the table, behind what a host sees of it
+abbrev pub with_added : Engine → World → List Value → World
+with_added M w bs = record { globals = w.globals ++ bs; memory = w.memory; table = new_entries M.program.module_ w.table; replies = w.replies; served = w.served }
+
+-- behind the globals stand a flag and the length of the memory
 abbrev pub flagged : Engine → World → Value → World
-flagged M w b = record { globals = w.globals ++ b ∷ []; memory = w.memory; table = new_entries M.program.module_ w.table; replies = w.replies; served = w.served }
+flagged M w b = with_added M w (b ∷ values.I64 (byte_count w.memory) ∷ [])
 
 abbrev pub image : Engine → Wrap → Config → List Wit → Config
 image M W c ws = config (t_top W c.frames ws) (flagged M c.world (values.I32 0)) c.collected

@@ -10,7 +10,8 @@ use Rattle.int_ops.specs.declared.operators.Binary.TheVariants.{Add, Sub, DivS, 
 use Rattle.int_ops.specs.declared.operators.Compare.TheVariants.{Eq, GtU, GtS}
 use Rattle.wasm_syntax.specs.declared.instruction.Convert.TheVariants.{ExtendU}
 use Rattle.wasm_syntax.specs.declared.instruction.Basic.{Basic}
-use Rattle.wasm_syntax.specs.declared.instruction.Basic.TheVariants.{Select, LocalGet, Load, Store, MemorySize, MemoryCopy, MemoryFill, Eqz, Compare, Binary, Convert}
+use Rattle.wasm_syntax.specs.declared.instruction.Basic.TheVariants.{Select, LocalGet, GlobalGet, GlobalSet, Load, Store, MemorySize, MemoryCopy, MemoryFill, Eqz, Compare, Binary, Convert}
+use Rattle.wasm_syntax.specs.declared.parts.Limits.{Limits}
 use Rattle.wasm_syntax.specs.declared.parts.FuncType.{FuncType}
 use Rattle.wasm_syntax.specs.declared.module.ModuleParts.{ModuleParts as Module}
 use Rattle.wasm_syntax.specs.Numbers.{bits, value}
@@ -18,6 +19,7 @@ use Rattle.wasm_syntax.specs.Access.{load_bits, store_bits}
 use Rattle.wasm_syntax.specs.Tree.{BrTable, Return, Nodes, stop, basic, jump, block}
 use Rattle.wasm_syntax.specs.Module.{type_at, same_functype, option_then}
 use Rattle.wasm_syntax.specs.Run.{table_min, start_table}
+use Rattle.rewrite_bodies.specs.Numbering.{flag_of}
 use Rattle.rewrite_bodies.specs.calls.Slots.{Place, Ctx}
 use Rattle.rewrite_bodies.specs.calls.Pieces.{const, i32, fetch}
 
@@ -45,22 +47,40 @@ guard_signed C t b a h k = overflow_test C t b a h (guard_zero C t b (suc h) (ba
 abbrev pub memory_length : Nodes → Nodes
 memory_length k = basic 0 MemorySize (basic 0 (Convert ExtendU) (const (values.I64 16) (basic 0 (Binary I64 Shl) k)))
 
+-- the global behind the flag: it has the length of the memory in bytes, as an i64
+abbrev pub length_of : Module → ℕ
+length_of m = suc (flag_of m)
+
+abbrev pub get_length : Module → Nodes → Nodes
+get_length m k = basic 0 (GlobalGet (length_of m)) k
+
+-- it is set to the length of the memory, where there is one: behind what may change that
+abbrev pub set_length : Module → Nodes → Nodes
+set_length m k = memory_length (basic 0 (GlobalSet (length_of m)) k)
+
+abbrev pub renewed : List Limits → Module → Nodes → Nodes
+renewed [] m k = k
+renewed (l ∷ ls) m k = set_length m k
+
+abbrev pub renew : Module → Nodes → Nodes
+renew m k = renewed m.memories m k
+
 -- the i64 on top is past the end of the memory
-abbrev pub past_end : Nodes → Nodes
-past_end k = memory_length (basic 0 (Compare I64 GtU) k)
+abbrev pub past_end : Module → Nodes → Nodes
+past_end m k = get_length m (basic 0 (Compare I64 GtU) k)
 
 -- The address on top is past the place from which so many bytes, offset included, end with the memory. As a signed number that place may be
 -- below 0. It does not hang on the address, so that an engine can find it outside of a loop.
-abbrev pub out_test : ℕ → Nodes → Nodes
-out_test n k = basic 0 (Convert ExtendU) (memory_length (const (values.I64 n) (basic 0 (Binary I64 Sub) (basic 0 (Compare I64 GtS) k))))
+abbrev pub out_test : Module → ℕ → Nodes → Nodes
+out_test m n k = basic 0 (Convert ExtendU) (get_length m (const (values.I64 n) (basic 0 (Binary I64 Sub) (basic 0 (Compare I64 GtS) k))))
 
 -- an access of n bytes, offset included, from the address at height h passes the end
 abbrev pub guard_memory : Ctx → Place → ℕ → ℕ → Nodes → Nodes
-guard_memory C a h n k = fetch C a h (out_test n k)
+guard_memory C a h n k = fetch C a h (out_test C.source n k)
 
 -- so many bytes from an address on, given by two operands with their heights, pass the end of the memory
 abbrev pub range_test : Ctx → Place → ℕ → Place → ℕ → Nodes → Nodes
-range_test C a h n hn k = fetch C a h (basic 0 (Convert ExtendU) (fetch C n hn (basic 0 (Convert ExtendU) (basic 0 (Binary I64 Add) (past_end k)))))
+range_test C a h n hn k = fetch C a h (basic 0 (Convert ExtendU) (fetch C n hn (basic 0 (Convert ExtendU) (basic 0 (Binary I64 Add) (past_end C.source k)))))
 
 -- the length, where from, and where to, which is at height h
 abbrev pub guard_copy : Ctx → Place → Place → Place → ℕ → Nodes → Nodes

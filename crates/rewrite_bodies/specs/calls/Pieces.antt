@@ -1,5 +1,5 @@
 -- Small pieces of code, each written in front of the code that goes on behind it.
-use Rattle.std.specs.Prelude.{ℕ, zero, suc, ◌+◌, List, [], ◌∷◌, length, Option, Some, None, Bool, if◌then◌else◌}
+use Rattle.std.specs.Prelude.{ℕ, zero, suc, ◌+◌, List, [], ◌∷◌, length, Option, Some, None, Bool, true, false, if◌then◌else◌}
 use Rattle.wasm_syntax.specs.declared.value.ValType.{ValType}
 use Rattle.wasm_syntax.specs.declared.value.Value.{Value}
 use Rattle.wasm_syntax.specs.declared.value.Value.TheVariants as values
@@ -39,10 +39,14 @@ load C zero es k = k
 load C (suc m) [] k = k
 load C (suc m) (e ∷ es) k = load C m es (fetch C e (length es) k)
 
--- a result is kept in its slot besides
-abbrev pub keep : Ctx → Option Place → List Place → Nodes → Nodes
-keep C (Some (Spilled t)) es k = basic 0 (LocalTee (length C.locals + slot t (length es))) k
-keep C e es k = k
+-- a result is kept in its slot besides, unless the next instruction takes it
+abbrev pub keep_slot : Bool → Ctx → ValType → List Place → Nodes → Nodes
+keep_slot true C t es k = k
+keep_slot false C t es k = basic 0 (LocalTee (length C.locals + slot t (length es))) k
+
+abbrev pub keep : Bool → Ctx → Option Place → List Place → Nodes → Nodes
+keep passing C (Some (Spilled t)) es k = keep_slot passing C t es k
+keep passing C e es k = k
 
 -- a result goes to its slot, and comes back from there
 abbrev pub store : Ctx → Option ValType → List Place → Nodes → Nodes

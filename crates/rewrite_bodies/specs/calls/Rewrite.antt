@@ -1,11 +1,11 @@
 -- The rewriting of a body: its instructions as they stand, on the same operands, each of which is somewhere besides; guards, which read from
 -- there; and unwinding through a flag. Code is written in front of the code that goes on behind it.
-use Rattle.std.specs.Prelude.{ℕ, zero, suc, ◌+◌, ◌==◌, nat_lt, List, [], ◌∷◌, length, slice_get, Option, Some, None, option_map, Bool, true, false}
+use Rattle.std.specs.Prelude.{ℕ, zero, suc, ◌+◌, ◌==◌, ◌&&◌, nat_lt, not, List, [], ◌∷◌, length, slice_get, Option, Some, None, option_map, Bool, true, false}
 use Rattle.wasm_syntax.specs.declared.value.ValType.{ValType}
 use Rattle.wasm_syntax.specs.declared.instruction.Basic.{Basic}
 use Rattle.wasm_syntax.specs.declared.value.ValType.TheVariants.{I32}
 use Rattle.int_ops.specs.declared.operators.Binary.TheVariants.{Add, Or}
-use Rattle.wasm_syntax.specs.declared.instruction.Basic.TheVariants.{LocalGet, GlobalGet, GlobalSet, Eqz, Binary}
+use Rattle.wasm_syntax.specs.declared.instruction.Basic.TheVariants.{LocalGet, GlobalGet, GlobalSet, MemoryGrow, Eqz, Binary}
 use Rattle.wasm_syntax.specs.declared.parts.FuncType.{FuncType}
 use Rattle.wasm_syntax.specs.Tree.{Jump, Unreachable, Br, BrIf, Return, Call, CallIndirect, Nodes, stop, basic, jump, block, loop, choose}
 use Rattle.wasm_syntax.specs.Module.{type_at}
@@ -15,7 +15,7 @@ use Rattle.wasm_syntax.specs.Machine.{result_of, zero_of}
 use Rattle.rewrite_bodies.specs.Numbering.{import_count, mapped, value_import, frame_import, flag_of, place_in, doubles}
 use Rattle.rewrite_bodies.specs.calls.Slots.{Place, Spilled, place_type, Ctx, kind_at, offset_at, less, grown, under, result_place, after_plain, Landing, local_written}
 use Rattle.rewrite_bodies.specs.calls.Pieces.{get, set, const, i32, call, if_any, fetch, load, keep, store, reload, spill, drops}
-use Rattle.rewrite_bodies.specs.calls.Guards.{guard, kind}
+use Rattle.rewrite_bodies.specs.calls.Guards.{set_length, renew, guard, kind}
 use Rattle.rewrite_bodies.specs.calls.Facts.{needs}
 use Rattle.rewrite_bodies.specs.calls.Landings.{number_of, number_in, part_of, landing_of, landing_behind, with_landings}
 
@@ -67,6 +67,25 @@ get_flag C k = basic 0 (GlobalGet (flag_of C.source)) k
 abbrev pub test_flag : Ctx → ℕ → List Place → ℕ → Nodes → Nodes
 test_flag C d es o k = checked (number_of (landing_behind (part_of C.locals o) es) C.landings) C d es o (get_flag C) (const (i32 0)) k
 
+-- ---- what is kept
+
+abbrev pub any : ℕ → Bool
+any zero = false
+any (suc n) = true
+
+-- The next instruction takes the topmost operand, and the frame is not handed over before it has: then the operand is on the stack alone. Where a
+-- list of nodes ends, its operands go where the block goes on.
+abbrev pub passes : Ctx → Nodes → Bool
+passes C stop = true
+passes C (basic o i rest) = any (takes i) && not (needs C o i)
+passes C (jump o Unreachable rest) = false
+passes C (jump o (Call f) rest) = false
+passes C (jump o (CallIndirect t) rest) = false
+passes C (jump o j rest) = true
+passes C (block o t inner end rest) = false
+passes C (loop o t inner end rest) = false
+passes C (choose o t a else_at b end rest) = true
+
 -- ---- basic instructions
 
 -- copies of the local that an instruction writes go to their slots
@@ -77,28 +96,39 @@ free_at C (Some x) es k = spill C (λ y. x == y) es k
 abbrev pub free : Ctx → Basic → List Place → Nodes → Nodes
 free C i es k = free_at C (local_written i) es k
 
-abbrev pub plain : Ctx → ℕ → List Place → ℕ → Basic → (List Place → Nodes) → Nodes
-plain C d es o i go =
-    guarded (needs C o i) C d es o i (free C i (less (takes i) es) (basic 0 i (keep C (result_place C es i) (less (takes i) es) (go (after_plain C es i)))))
+-- the instruction that changes the length of the memory, and what stands behind it
+abbrev pub grows : Basic → Bool
+grows MemoryGrow = true
+grows i = false
+
+abbrev pub lengthened : Bool → Ctx → Nodes → Nodes
+lengthened false C k = k
+lengthened true C k = set_length C.source k
+
+-- in front of code to which the topmost operand passes, or not
+abbrev pub plain : Ctx → ℕ → List Place → ℕ → Basic → Bool → (List Place → Nodes) → Nodes
+plain C d es o i passing go =
+    guarded (needs C o i) C d es o i
+    (free C i (less (takes i) es) (basic 0 i (lengthened (grows i) C (keep passing C (result_place C es i) (less (takes i) es) (go (after_plain C es i))))))
 
 -- ---- control
 
 -- a result has come, and the code goes on
-abbrev pub with_result : Ctx → Option ValType → List Place → (List Place → Nodes) → Nodes
-with_result C r es go = keep C (option_map Spilled r) es (go (grown r es))
+abbrev pub with_result : Ctx → Option ValType → List Place → Bool → (List Place → Nodes) → Nodes
+with_result C r es passing go = keep passing C (option_map Spilled r) es (go (grown r es))
 
-abbrev pub after_call : Ctx → ℕ → Option ValType → List Place → ℕ → (List Place → Nodes) → Nodes
-after_call C d r es o go = with_result C r es (λ es'. test_flag C d es o (go es'))
+abbrev pub after_call : Ctx → ℕ → Option ValType → List Place → ℕ → Bool → (List Place → Nodes) → Nodes
+after_call C d r es o passing go = with_result C r es passing (λ es'. test_flag C d es o (go es'))
 
--- a call of an import cannot come back with the flag up
-abbrev pub after_direct : Bool → Ctx → ℕ → Option ValType → List Place → ℕ → (List Place → Nodes) → Nodes
-after_direct true C d r es o go = with_result C r es go
-after_direct false C d r es o go = after_call C d r es o go
+-- a call of an import cannot come back with the flag up, but its host may have made the memory longer
+abbrev pub after_direct : Bool → Ctx → ℕ → Option ValType → List Place → ℕ → Bool → (List Place → Nodes) → Nodes
+after_direct true C d r es o passing go = renew C.source (with_result C r es passing go)
+after_direct false C d r es o passing go = after_call C d r es o passing go
 
-abbrev pub call_code : Ctx → ℕ → List Place → ℕ → ℕ → Option FuncType → (List Place → Nodes) → Nodes
-call_code C d es o f None go = stop
-call_code C d es o f (Some type) go =
-    call (mapped C.source f) (after_direct (nat_lt f (import_count C.source)) C d (result_of type) (less (length type.params) es) o go)
+abbrev pub call_code : Ctx → ℕ → List Place → ℕ → ℕ → Option FuncType → Bool → (List Place → Nodes) → Nodes
+call_code C d es o f None passing go = stop
+call_code C d es o f (Some type) passing go =
+    call (mapped C.source f) (after_direct (nat_lt f (import_count C.source)) C d (result_of type) (less (length type.params) es) o passing go)
 
 abbrev pub helper_of : Ctx → ℕ → ℕ
 helper_of C t = C.base + place_in t C.helpers
@@ -119,7 +149,7 @@ past_shown false C k = k
 past_shown true C k = const (i32 (table_min C.source.tables)) (basic 0 (Binary I32 Add) k)
 
 -- where the guard gave no kind, the call is made inside an arm, on operands that are fetched; behind it, one piece of code hands over the
--- operands left, and those of the call are dropped
+-- operands left, and those of the call are dropped; the function may have been an import
 abbrev pub indirect_code : Ctx → ℕ → List Place → ℕ → ℕ → Option FuncType → (List Place → Nodes) → Nodes
 indirect_code C d es o t None go = stop
 indirect_code C d [] o t (Some type) go = stop
@@ -129,30 +159,30 @@ indirect_code C d (i ∷ es) o t (Some type) go =
     let r = result_of type in
     fetch C i (length es) (call (helper_of C t) (set C (kind_at C) (get C (kind_at C) (basic 0 (Eqz I32)
     (if_any (load C (suc n) (i ∷ es) (past_shown (doubles C.source) C (jump 0 (CallIndirect t) (store C r left stop))))
-    (test_both C d left o (hand_top C (suc n) (i ∷ es) stop) (drops (suc n) (reload C r left (go (grown r left))))))))))
+    (test_both C d left o (hand_top C (suc n) (i ∷ es) stop) (drops (suc n) (renew C.source (reload C r left (go (grown r left)))))))))))
 
-abbrev pub control : Ctx → ℕ → List Place → ℕ → Jump → (List Place → Nodes) → Nodes
-control C d es o Unreachable go = const (i32 1) (tested C d es o (const (i32 1)) (jump 0 Unreachable stop))
-control C d es o (BrIf l) go = jump 0 (BrIf l) (go (less 1 es))
-control C d es o (Call f) go = call_code C d es o f (type_at C.source f) go
-control C d es o (CallIndirect t) go = indirect_code C d es o t (slice_get C.source.types t) go
-control C d es o j go = jump 0 j stop
+abbrev pub control : Ctx → ℕ → List Place → ℕ → Jump → Bool → (List Place → Nodes) → Nodes
+control C d es o Unreachable passing go = const (i32 1) (tested C d es o (const (i32 1)) (jump 0 Unreachable stop))
+control C d es o (BrIf l) passing go = jump 0 (BrIf l) (go (less 1 es))
+control C d es o (Call f) passing go = call_code C d es o f (type_at C.source f) passing go
+control C d es o (CallIndirect t) passing go = indirect_code C d es o t (slice_get C.source.types t) go
+control C d es o j passing go = jump 0 j stop
 
 -- ---- the nodes, inside so many labels
 
 -- copies of locals go to their slots before a block
 abbrev pub rewrite : Ctx → ℕ → List Place → Nodes → Nodes
 rewrite C d es stop = stop
-rewrite C d es (basic o i rest) = plain C d es o i (λ es'. rewrite C d es' rest)
-rewrite C d es (jump o j rest) = control C d es o j (λ es'. rewrite C d es' rest)
+rewrite C d es (basic o i rest) = plain C d es o i (passes C rest) (λ es'. rewrite C d es' rest)
+rewrite C d es (jump o j rest) = control C d es o j (passes C rest) (λ es'. rewrite C d es' rest)
 rewrite C d es (block o t inner end rest) =
-    spill C (λ x. true) es (block 0 t (rewrite C (suc d) (under es) inner) 0 (with_result C t (under es) (λ es'. rewrite C d es' rest)))
+    spill C (λ x. true) es (block 0 t (rewrite C (suc d) (under es) inner) 0 (with_result C t (under es) (passes C rest) (λ es'. rewrite C d es' rest)))
 rewrite C d es (loop o t inner end rest) =
-    spill C (λ x. true) es (loop 0 t (rewrite C (suc d) (under es) inner) 0 (with_result C t (under es) (λ es'. rewrite C d es' rest)))
+    spill C (λ x. true) es (loop 0 t (rewrite C (suc d) (under es) inner) 0 (with_result C t (under es) (passes C rest) (λ es'. rewrite C d es' rest)))
 rewrite C d es (choose o t a else_at b end rest) =
     let left = under (less 1 es) in
     spill C (λ x. true) (less 1 es)
-    (choose 0 t (rewrite C (suc d) left a) (option_map (λ at. 0) else_at) (rewrite C (suc d) left b) 0 (with_result C t left (λ es'. rewrite C d es' rest)))
+    (choose 0 t (rewrite C (suc d) left a) (option_map (λ at. 0) else_at) (rewrite C (suc d) left b) 0 (with_result C t left (passes C rest) (λ es'. rewrite C d es' rest)))
 
 -- ---- the exit
 

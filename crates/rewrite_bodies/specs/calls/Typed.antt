@@ -1,7 +1,7 @@
 -- What a module offers to rewritten code, so that it is well typed there.
 use Rattle.std.specs.Prelude.{◌≡◌, ℕ, ◌+◌, List, [], ◌∷◌, ◌++◌, length, map, reverse, slice_get, Option, Some, None, true, option_to_list}
 use Rattle.wasm_syntax.specs.declared.value.ValType.{ValType}
-use Rattle.wasm_syntax.specs.declared.value.ValType.TheVariants.{I32}
+use Rattle.wasm_syntax.specs.declared.value.ValType.TheVariants.{I32, I64}
 use Rattle.wasm_syntax.specs.declared.parts.FuncType.{FuncType}
 use Rattle.wasm_syntax.specs.declared.parts.Global.{Global}
 use Rattle.wasm_syntax.specs.declared.module.ModuleParts.{ModuleParts as Module}
@@ -11,7 +11,7 @@ use Rattle.wasm_syntax.specs.Machine.{result_of}
 use Rattle.wasm_syntax.specs.Typing.{Context, Types}
 use Rattle.rewrite_bodies.specs.Numbering.{mapped, value_import, frame_import, value_type, frame_type, flag_of, place_in}
 use Rattle.rewrite_bodies.specs.calls.Slots.{Place, Spilled, Known, Copied, Ctx, added}
-use Rattle.rewrite_bodies.specs.calls.Guards.{helper_type}
+use Rattle.rewrite_bodies.specs.calls.Guards.{length_of, helper_type}
 use Rattle.rewrite_bodies.specs.calls.Rewrite.{body}
 use Rattle.rewrite_bodies.specs.calls.Agreement.{Has, Room}
 
@@ -23,6 +23,10 @@ pub record Offers (C : Ctx) (m : Module) (locals : List ValType) : Type 0 where
   pub flag_there : slice_get m.globals (flag_of C.source) ≡ Some flag
   pub flag_type : flag.vtype ≡ I32
   pub flag_mutable : flag.mutable ≡ true
+  pub length_ : Global
+  pub length_there : slice_get m.globals (length_of C.source) ≡ Some length_
+  pub length_type : length_.vtype ≡ I64
+  pub length_mutable : length_.mutable ≡ true
   pub memories : m.memories ≡ C.source.memories
   pub tables : length m.tables ≡ length C.source.tables
   pub types : (t : ℕ) (type : FuncType) → slice_get C.source.types t ≡ Some type → slice_get m.types t ≡ Some type

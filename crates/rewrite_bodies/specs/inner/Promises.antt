@@ -13,7 +13,7 @@ use Rattle.wasm_syntax.specs.Effect.{takes, Effect, gives, fails, unfit, effect}
 use Rattle.rewrite_bodies.specs.calls.Offsets.{SmallOffset}
 use Rattle.rewrite_bodies.specs.calls.Guards.{can_trap, guard, kind}
 use Rattle.rewrite_bodies.specs.calls.Steps.{To, Shell, st}
-use Rattle.rewrite_bodies.specs.calls.Agreement.{Holds, Wit, MemoryFits, WorldFits, FitsTop, FitsConfig, Wrap, image}
+use Rattle.rewrite_bodies.specs.calls.Agreement.{Holds, Wit, MemoryFits, TellsLength, WorldFits, FitsTop, FitsConfig, Wrap, image}
 use Rattle.rewrite_bodies.specs.calls.Standing.{After, Stands}
 
 -- the kind with which it traps, or 0
@@ -32,7 +32,7 @@ verdict (suc k) = 1
 abbrev pub GuardTells : Engine → Basic → Type 0
 GuardTells M i =
     (C : Ctx) (locals added_ : List Value) (X : Shell) (behind : Nodes) (there here : World) (calls : List CollectorCall) (js es : List Place) (ops vs below under : List Value) →
-    length C.locals ≡ length locals → there.memory ≡ here.memory → MemoryFits here.memory → SmallOffset i → can_trap i ≡ true →
+    length C.locals ≡ length locals → TellsLength C there here.memory → MemoryFits here.memory → SmallOffset i → can_trap i ≡ true →
     Holds locals added_ js ops es → cut (takes i) ops ≡ parts vs below → effect i here locals vs ≢ unfit →
     To M 1 21 (st X (locals ++ added_) under (guard C i (es ++ js) behind) there calls) (st X (locals ++ added_) (values.I32 (verdict (kind_of (effect i here locals vs))) ∷ under) behind there calls)
     × ((k : ℕ) → kind_of (effect i here locals vs) ≡ suc k → To M 1 5 (st X (locals ++ added_) under (kind C i (es ++ js) behind) there calls) (st X (locals ++ added_) (values.I32 (suc k) ∷ under) behind there calls))

@@ -1,9 +1,13 @@
 -- The rewritten module.
-use Rattle.std.specs.Prelude.{ℕ, suc, ◌+◌, List, [], ◌∷◌, ◌++◌, length, map, slice_get, if◌then◌else◌, Option, Some, None, unwrap_or, true, codes}
+use Rattle.std.specs.Prelude.{ℕ, suc, ◌+◌, ◌*◌, List, [], ◌∷◌, ◌++◌, length, map, slice_get, if◌then◌else◌, Option, Some, None, unwrap_or, true, codes}
 use Rattle.wasm_syntax.specs.declared.value.ValType.TheVariants.{I32, I64}
 use Rattle.wasm_syntax.specs.declared.instruction.Basic.TheVariants.{Const}
 use Rattle.wasm_syntax.specs.declared.instruction.Instr.TheVariants as instrs
+use Rattle.wasm_syntax.specs.declared.value.Value.{Value}
+use Rattle.wasm_syntax.specs.declared.value.Value.TheVariants as values
 use Rattle.wasm_syntax.specs.declared.parts.FuncType.{FuncType}
+use Rattle.wasm_syntax.specs.declared.parts.Limits.{Limits}
+use Rattle.wasm_syntax.specs.declared.parts.Global.{Global}
 use Rattle.wasm_syntax.specs.declared.parts.Body.{Body}
 use Rattle.wasm_syntax.specs.declared.parts.Export.{Export}
 use Rattle.wasm_syntax.specs.declared.parts.ElementSeg.{ElementSeg}
@@ -38,13 +42,24 @@ abbrev pub each : {A B : Type 0} → (ℕ → B) → ℕ → List A → List B
 each go f [] = []
 each go f (x ∷ xs) = go f ∷ each go (suc f) xs
 
--- the constant expression of a number
+-- the constant expressions of a value, and of a number
+abbrev pub value_init : Value → Body
+value_init v = record { groups = []; ops = op (instrs.Basic (Const v)) ∷ op instrs.End ∷ []; targets = []; start = 0 }
+
 abbrev pub number_init : ℕ → Body
-number_init n = record { groups = []; ops = op (instrs.Basic (Const (i32 n))) ∷ op instrs.End ∷ []; targets = []; start = 0 }
+number_init n = value_init (i32 n)
 
 -- the flag is down at first
-abbrev pub zero_init : Body
-zero_init = number_init 0
+abbrev pub flag_global : Global
+flag_global = record { vtype = I32; mutable = true; init = number_init 0 }
+
+-- the pages of a memory at first, and the global of its length in bytes
+abbrev pub memory_min : List Limits → ℕ
+memory_min [] = 0
+memory_min (l ∷ ls) = l.min
+
+abbrev pub length_global : Module → Global
+length_global m = record { vtype = I64; mutable = true; init = value_init (values.I64 (65536 * memory_min m.memories)) }
 
 -- an export of a defined function is that of its wrapper; k is the number of wrappers before
 abbrev pub new_index : Module → ℕ → List ℕ → ℕ → ℕ
@@ -91,7 +106,7 @@ new_module p =
       functions = m.functions ++ (map (wrapper_type m) (wrapped m) ++ map (λ u. t + 3) (helped p));
       tables = new_tables m;
       memories = m.memories;
-      globals = m.globals ++ record { vtype = I32; mutable = true; init = zero_init } ∷ [];
+      globals = m.globals ++ flag_global ∷ length_global m ∷ [];
       exports = new_exports m 0 m.exports ++ memory_export m.memories;
       start = new_start m m.start;
       elements = shown_elements m ++ map (inner_element m) m.elements;

@@ -1,4 +1,4 @@
--- Wrappers: each lowers the flag, calls its function, and where the flag is up behind it, hands over the globals, lowers the flag again and
+-- Wrappers: each lowers the flag, sets the length of the memory, calls its function, and where the flag is up behind it, hands over the globals, lowers the flag again and
 -- ends in a trap.
 use Rattle.std.specs.Prelude.{ℕ, zero, suc, List, [], ◌∷◌, length}
 use Rattle.wasm_syntax.specs.declared.value.ValType.{ValType}
@@ -9,6 +9,7 @@ use Rattle.wasm_syntax.specs.Module.{type_at}
 use Rattle.wasm_syntax.specs.Sizes.{parameter_count}
 use Rattle.rewrite_bodies.specs.Numbering.{mapped, value_import, frame_import, flag_of, global_types}
 use Rattle.rewrite_bodies.specs.calls.Pieces.{const, i32, call, if_any}
+use Rattle.rewrite_bodies.specs.calls.Guards.{renew}
 
 -- the parameters from x on
 abbrev pub get_all : ℕ → ℕ → Nodes → Nodes
@@ -34,8 +35,9 @@ end_of_dump m =
 abbrev pub after_wrapped : Module → Nodes
 after_wrapped m = basic 0 (GlobalGet (flag_of m)) (if_any (end_of_dump m) stop)
 
+-- a host may have made the memory longer
 abbrev pub wrapper_nodes : Module → ℕ → ℕ → Nodes
-wrapper_nodes m f n = lower_flag m (get_all 0 n (call (mapped m f) (after_wrapped m)))
+wrapper_nodes m f n = lower_flag m (renew m (get_all 0 n (call (mapped m f) (after_wrapped m))))
 
 abbrev pub wrapper : Module → ℕ → Nodes
 wrapper m f = wrapper_nodes m f (parameter_count (type_at m f))

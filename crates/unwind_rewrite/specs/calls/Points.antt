@@ -7,7 +7,7 @@ use Rattle.wasm_syntax.specs.Tree.{Nodes, Tree, Item, Placed, placed, write, cod
 use Rattle.rewrite_bodies.specs.calls.Slots.{Ctx}
 use Rattle.rewrite_code.specs.calls.Writing.{Written}
 use Rattle.operand_spill.specs.calls.Walking.{Walking}
-use Rattle.operand_spill.specs.calls.Standing.{Due, flat, Fine, Rewrites, Left}
+use Rattle.operand_spill.specs.calls.Standing.{Due, flat, Passes, Fine, Rewrites, Left}
 use Rattle.unwind_rewrite.specs.declared.points.Point.{Point}
 use Rattle.unwind_rewrite.specs.declared.points.Point.TheVariants as points
 use Rattle.operand_spill.specs.declared.flow.Flow.{Flow}
@@ -26,15 +26,15 @@ abbrev pub Flows : Ctx → List Placed → Written → Nodes → ℕ → Walking
 Flows C code start whole pc w now flows.Next = Rewrites C code start whole (suc pc) w now
 Flows C code start whole pc w now flows.Ends = (to : ℕ) → EndsAt code pc to → pc ≤ to → Left C code start whole to w now
 
--- what a live instruction with this code offset comes to, wherever it stands
-abbrev pub Advances : Ctx → ℕ → Item → Walking → Written → Walking → Written → Flow → Type 0
-Advances C o i w now w' now' flow =
-    (code : List Placed) (start : Written) (whole : Nodes) (pc : ℕ) → Begins code pc o i → Rewrites C code start whole pc w now → Flows C code start whole pc w' now' flow
+-- what a live instruction with this code offset comes to, wherever it stands; the topmost operand passes to what is behind it, or not
+abbrev pub Advances : Ctx → Bool → ℕ → Item → Walking → Written → Walking → Written → Flow → Type 0
+Advances C passing o i w now w' now' flow =
+    (code : List Placed) (start : Written) (whole : Nodes) (pc : ℕ) → Begins code pc o i → Passes C (drop (suc pc) code) passing → Rewrites C code start whole pc w now → Flows C code start whole pc w' now' flow
 
 -- what the `else` or the `end` behind a list comes to, but for the last one
-abbrev pub Resumes : Ctx → Item → Walking → Written → Walking → Written → Type 0
-Resumes C i w now w' now' =
-    (code : List Placed) (start : Written) (whole : Nodes) (pc o : ℕ) → Begins code pc o i → suc pc < length code → Left C code start whole pc w now → Rewrites C code start whole (suc pc) w' now'
+abbrev pub Resumes : Ctx → Bool → Item → Walking → Written → Walking → Written → Type 0
+Resumes C passing i w now w' now' =
+    (code : List Placed) (start : Written) (whole : Nodes) (pc o : ℕ) → Begins code pc o i → suc pc < length code → Passes C (drop (suc pc) code) passing → Left C code start whole pc w now → Rewrites C code start whole (suc pc) w' now'
 
 -- an instruction that stands behind a list
 abbrev pub IsBehind : Instr → Type 0

@@ -2,4 +2,4 @@ use Rattle.unwind_rewrite.proofs.NodeLaws.{block_begun}
 use Rattle.unwind_rewrite.proofs.instructions.write_block.Goals as goal
 
 pub returns : goal.returns
-returns c = λ o. block_begun c.args.context.now o c.args.gives c.args.walk.now c.open.new.self c.places.result.now c.places.ensures c.in_ok-open.ensures c.in_ok-open_block.ensures
+returns c = λ p o. block_begun c.args.context.now p o c.args.gives c.args.walk.now c.open.new.self c.places.result.now c.places.ensures c.in_ok-open.ensures c.in_ok-open_block.ensures

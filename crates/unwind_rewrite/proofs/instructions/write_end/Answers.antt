@@ -7,4 +7,4 @@ close_block-requires c = below_fits c.args.walk.now.opens c.below.result c.args.
 
 pub returns : goal.returns
 returns c =
-    when_ok (λ e. closed c.args.context.now c.args.walk.now c.close.new.self c.innermost.result c.end_gives.result c.below.result c.innermost.ensures.block c.end_gives.ensures c.below.ensures e c.in_ok-close_block.ensures) c.close.result c.close.ensures
+    when_ok (λ e. closed c.args.context.now c.args.passing c.args.walk.now c.close.new.self c.innermost.result c.end_gives-gives.result c.below.result c.innermost.ensures.block c.end_gives-gives.ensures c.below.ensures e c.in_ok-close_block.ensures) c.close.result c.close.ensures

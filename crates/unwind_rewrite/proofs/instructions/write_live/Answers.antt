@@ -7,8 +7,8 @@ use Rattle.unwind_rewrite.proofs.instructions.write_live.Goals as goal
 
 pub returns-in-Else : goal.returns-in-Else
 returns-in-Else c =
-    subst (λ x. Advances c.args.context.now c.args.op.at (item_of c.args.targets.now x) c.args.walk.now c.args.writer.now c.args.walk.now c.args.writer.now Ends) (sym c.in-Else.is) (before_else c.args.context.now c.args.op.at c.args.walk.now)
+    subst (λ x. Advances c.args.context.now c.args.passing c.args.op.at (item_of c.args.targets.now x) c.args.walk.now c.args.writer.now c.args.walk.now c.args.writer.now Ends) (sym c.in-Else.is) (before_else c.args.context.now c.args.passing c.args.op.at c.args.walk.now)
 
 pub returns-in-End : goal.returns-in-End
 returns-in-End c =
-    subst (λ x. Advances c.args.context.now c.args.op.at (item_of c.args.targets.now x) c.args.walk.now c.args.writer.now c.args.walk.now c.args.writer.now Ends) (sym c.in-End.is) (before_end c.args.context.now c.args.op.at c.args.walk.now)
+    subst (λ x. Advances c.args.context.now c.args.passing c.args.op.at (item_of c.args.targets.now x) c.args.walk.now c.args.writer.now c.args.walk.now c.args.writer.now Ends) (sym c.in-End.is) (before_end c.args.context.now c.args.passing c.args.op.at c.args.walk.now)

@@ -4,4 +4,4 @@ use Rattle.unwind_rewrite.proofs.JumpLaws.{transfers}
 use Rattle.unwind_rewrite.proofs.jumps.write_branch.Goals as goal
 
 pub returns : goal.returns
-returns c = λ C o w. transfers C o (Br c.args.label) w (λ go. emits_stop c.in_ok-branch.ensures)
+returns c = λ C p o w. transfers C p o (Br c.args.label) w (λ q go. emits_stop c.in_ok-branch.ensures)

@@ -4,4 +4,4 @@ use Rattle.unwind_rewrite.proofs.JumpLaws.{transfers}
 use Rattle.unwind_rewrite.proofs.jumps.write_return.Goals as goal
 
 pub returns : goal.returns
-returns c = λ C o w. transfers C o Return w (λ go. emits_stop c.in_ok-return_values.ensures)
+returns c = λ C p o w. transfers C p o Return w (λ q go. emits_stop c.in_ok-return_values.ensures)

@@ -6,7 +6,7 @@ use Rattle.rewrite_modules.proofs.Multiple.{code_length}
 
 pub write_behind-requires-clause-behind : goal.write_behind-requires-clause-behind
 write_behind-requires-clause-behind c =
-    let s = c.requires.stood in stands_behind c.args.context.now c.args.body.now c.as_slice.result.now s.0 s.1 c.args.index _ c.args.walk.now c.args.writer.now c.as_slice.ensures s.2
+    let s = c.requires.stood in stands_behind c.args.context.now c.args.body.now c.as_slice-ops.result.now s.0 s.1 c.args.index _ c.args.walk.now c.args.writer.now c.as_slice-ops.ensures s.2
 
 pub write_behind-requires-clause-open : goal.write_behind-requires-clause-open
 write_behind-requires-clause-open c =
@@ -19,4 +19,4 @@ write_behind-requires-clause-room c = let s = c.requires.stood in saved_room c.a
 
 pub returns-clause-goes_on : goal.returns-clause-goes_on
 returns-clause-goes_on c = λ start whole r.
-    resumes_next c.args.context.now c.args.body.now c.as_slice.result.now start whole c.args.index _ c.args.walk.now c.write_behind.new.walk c.as_slice.ensures c.requires.before_last c.in_ok-write_behind.ensures r
+    resumes_next c.args.context.now c.passes-passing.result c.args.body.now c.as_slice-ops.result.now start whole c.args.index _ c.args.walk.now c.write_behind.new.walk c.as_slice-ops.ensures c.requires.before_last c.in_ok-write_behind.ensures c.passes-passing.ensures r

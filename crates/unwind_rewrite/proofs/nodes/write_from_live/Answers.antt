@@ -16,6 +16,10 @@ pub overflow_add-result : goal.overflow_add-result
 overflow_add-result c =
     let s = c.requires.stood in omega (arith, stands_inside c.args.context.now c.args.body.now s.0 s.1 c.args.index c.args.walk.now c.args.writer.now s.2, c.requires.few)
 
+pub overflow_add-index : goal.overflow_add-index
+overflow_add-index c =
+    let s = c.requires.stood in omega (arith, stands_inside c.args.context.now c.args.body.now s.0 s.1 c.args.index c.args.walk.now c.args.writer.now s.2, c.requires.few)
+
 pub write_live-requires-clause-helped : goal.write_live-requires-clause-helped
 write_live-requires-clause-helped c =
     let s = c.requires.stood in
@@ -29,8 +33,8 @@ write_live-requires-clause-room c = let s = c.requires.stood in point_room c.arg
 
 pub returns-in-Next-clause-goes_on : goal.returns-in-Next-clause-goes_on
 returns-in-Next-clause-goes_on c = λ start whole r.
-    goes_next c.args.context.now c.args.body.now c.as_slice-targets.result.now c.as_slice-ops.result.now start whole c.args.index _ c.args.walk.now c.write_live.new.walk c.in_ok-write_live.field-0 c.as_slice-targets.ensures c.as_slice-ops.ensures c.in-Next.is
-    c.in_ok-write_live.ensures r
+    goes_next c.args.context.now c.passes-passing.result c.args.body.now c.as_slice-targets.result.now c.as_slice-ops.result.now start whole c.args.index _ c.args.walk.now c.write_live.new.walk c.in_ok-write_live.field-0 c.as_slice-targets.ensures c.as_slice-ops.ensures c.in-Next.is
+    c.in_ok-write_live.ensures c.passes-passing.ensures r
 
 pub returns-in-Next-clause-less : goal.returns-in-Next-clause-less
 returns-in-Next-clause-less c =
@@ -38,5 +42,5 @@ returns-in-Next-clause-less c =
 
 pub returns-in-Ends-clause-goes_on : goal.returns-in-Ends-clause-goes_on
 returns-in-Ends-clause-goes_on c = λ start whole r.
-    goes_out c.args.context.now c.args.body.now c.as_slice-targets.result.now c.as_slice-ops.result.now start whole c.args.index c.end_of_list.result _ c.args.walk.now c.write_live.new.walk c.in_ok-write_live.field-0 c.as_slice-targets.ensures c.as_slice-ops.ensures c.in-Ends.is
-    c.in_ok-write_live.ensures c.end_of_list.ensures.forward c.end_of_list.ensures.end r
+    goes_out c.args.context.now c.passes-passing.result c.args.body.now c.as_slice-targets.result.now c.as_slice-ops.result.now start whole c.args.index c.end_of_list.result _ c.args.walk.now c.write_live.new.walk c.in_ok-write_live.field-0 c.as_slice-targets.ensures c.as_slice-ops.ensures c.in-Ends.is
+    c.in_ok-write_live.ensures c.passes-passing.ensures c.end_of_list.ensures.forward c.end_of_list.ensures.end r

@@ -6,4 +6,4 @@ use Rattle.unwind_rewrite.proofs.plain.instruction.Goals as goal
 
 pub returns : goal.returns
 returns c = λ taken gives.
-    when_ok (made_plain c.args.context.now c.args.site.now.labels c.args.site.now.places.now c.args.site.now.offset c.args.instruction c.args.taken (option_map place c.args.gives) taken gives c.in_ok-guarded.ensures) c.on_operands.result c.on_operands.ensures
+    when_ok (made_plain c.args.context.now c.args.site.now.passing c.args.site.now.labels c.args.site.now.places.now c.args.site.now.offset c.args.instruction c.args.taken (option_map place c.args.gives) taken gives c.in_ok-guarded.ensures) c.on_operands.result c.on_operands.ensures

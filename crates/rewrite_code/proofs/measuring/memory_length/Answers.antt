@@ -1,6 +1,6 @@
 use Rattle.rewrite_code.proofs.Pieces.{emits_then}
 use Rattle.rewrite_code.proofs.Loads.{when_ok}
-use Rattle.guard_insert.proofs.accesses.memory_length.Goals as goal
+use Rattle.rewrite_code.proofs.measuring.memory_length.Goals as goal
 
 pub returns : goal.returns
 returns c =
