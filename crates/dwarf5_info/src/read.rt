@@ -35,6 +35,6 @@ pub fn read_units5<'a>(alloc: Global, sections: &Sections5<'a>) -> Result<Units<
     ensures spelled { IfOk result (IsUnits5 sections.now) }
 {
     sections_are_bytes(sections);
-    let mut versions = UpToFive::new(alloc);
+    let mut versions = UpToFive::new(alloc, sections)?;
     read_all(alloc, sections, &mut versions)
 }

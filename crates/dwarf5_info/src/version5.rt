@@ -1,29 +1,29 @@
 //! Units of version 5 (DWARF 5 section 7.5.1.1).
 
-ghost use Rattle.std.specs.Prelude.{◌≡◌, ◌≤◌, ◌+◌, ◌-◌, [], length, option_map, option_copied, unwrap_or, None, OnOk};
+ghost use Rattle.std.specs.Prelude.{◌≡◌, ◌≤◌, ◌+◌, ◌-◌, [], length, option_map, option_copied, unwrap_or, IfOk, OnOk};
 ghost use Rattle.std.specs.Prelude.{IfSome};
 ghost use Rattle.wasm_bytes.specs.Place.{Place, Moves, Stays};
 ghost use Rattle.wasm_bytes.specs.calls.Answers.{Reads, Gives};
-ghost use Rattle.dwarf_bytes.specs.Items.{item_or_none, reading_of};
+ghost use Rattle.dwarf_bytes.specs.Items.{item_or_none};
 ghost use Rattle.dwarf_info.specs.Sections.{SectionBytes5, greatest_section};
 ghost use Rattle.dwarf_info.specs.Forms.{form_of};
 ghost use Rattle.dwarf_info.specs.Units.{body_item};
 ghost use Rattle.dwarf_info.specs.calls.Sizes.{IsSized};
-ghost use Rattle.dwarf_info.specs.calls.Keeping.{Keeps, FirstRow};
-ghost use Rattle.dwarf_info.specs.calls.Rows4.{rows4};
 ghost use Rattle.dwarf5_info.specs.Forms5.{forms5};
 ghost use Rattle.dwarf5_info.specs.Indices.{index5};
 ghost use Rattle.dwarf5_info.specs.Version5.{is_unit_type, header5_item, shapes5_item, version5, up_to5};
-ghost use Rattle.dwarf5_info.specs.calls.Rows5.{rows5};
+ghost use Rattle.dwarf5_info.specs.calls.Rows5.{pair5, rows5};
 ghost use Rattle.dwarf5_info.specs.inner.Bases.{looked_up};
+ghost use Rattle.dwarf5_info.specs.inner.Keeping.{IsKept, AreKept};
 
-use crate::abbreviations::read_shape;
+use crate::abbreviations::read_pair5;
 use crate::forms::form5;
 use crate::indices::Bases;
+use causes::NoMemory;
 use dwarf_bytes::number;
 use dwarf_info::{
-    AttrValue, Attributes, Form, Four, IndexTable, PreparedSections, Shape, Tables, Unit,
-    UnitVersion, UnitVersions, read_body,
+    AttrValue, Attributes, Form, Four, IndexTable, KnownPairs, PreparedSections, Sections5, Slot,
+    Tables, Unit, UnitVersion, UnitVersions, read_body,
 };
 use std::alloc::Global;
 use wasm_bytes::{ItemFault, Malformed, Reader};
@@ -44,7 +44,7 @@ impl<'a> UnitVersion<'a> for Five {
 
     ghost version = { version5 };
 
-    ghost rows = { rows5 };
+    ghost pair = { pair5 };
 
     ghost looked = { looked_up };
 
@@ -75,17 +75,16 @@ impl<'a> UnitVersion<'a> for Five {
         Ok(offset)
     }
 
-    fn row(alloc: Global, reader: &mut Reader<'a>) -> Result<Option<Shape>, ItemFault>
-        ensures item { FirstRow rows5 reader.old result reader.new }
+    fn read_pair(reader: &mut Reader<'a>) -> Result<Option<Slot>, Malformed>
+        ensures item { Reads result reader.new (pair5 reader.old) }
         ensures moves { OnOk result (Moves reader.old reader.new) }
     {
-        read_shape(alloc, reader)
+        read_pair5(reader)
     }
 
     #[tactic(auto, unfolding(crate::specs::Version5::shapes5_item, dwarf_abbrev::specs::Reading::table_item, dwarf_bytes::specs::Items::ended_item, dwarf_bytes::specs::Items::ended_from))]
     fn rows_are_shapes()
-        ensures are { (p : Place) → shapes5_item p ≡ rows5 (length p.block + 1 - p.at) p }
-        ensures none { (p : Place) → reading_of (rows5 0 p) ≡ None }
+        ensures { (p : Place) → shapes5_item p ≡ rows5 (length p.block + 1 - p.at) p }
     {}
 
     fn index(root: Option<&Attributes<'a>>) -> Bases
@@ -107,30 +106,74 @@ impl<'a> UnitVersion<'a> for Five {
     }
 }
 
+/// What is kept of the abbreviations of a version.
+#[derive(Drop)]
+struct Kept {
+    pairs: KnownPairs,
+    tables: Tables,
+}
+
 /// Versions 4 and 5.
 #[derive(Drop)]
 pub struct UpToFive {
-    four: Tables,
-    five: Tables,
+    four: Kept,
+    five: Kept,
+}
+
+impl Kept {
+    /// The pairs of a version are read, and no table yet.
+    fn new<'a, V: UnitVersion<'a>>(
+        alloc: Global,
+        sections: &Sections5<'a>,
+    ) -> Result<Self, NoMemory>
+        requires { length sections.now.base.abbreviations ≤ greatest_section }
+        ensures { IfOk result (IsKept V.pair sections.now) }
+    {
+        let pairs = KnownPairs::of::<V>(alloc, sections)?;
+        Ok(Kept {
+            pairs,
+            tables: Tables::new(alloc),
+        })
+    }
+
+    /// What stands behind the version of a unit of this version.
+    fn read_body<'a, V: UnitVersion<'a>>(
+        &mut self,
+        alloc: Global,
+        sections: &PreparedSections<'a>,
+        origin: u32,
+        version: u32,
+        reader: &mut Reader<'a>,
+    ) -> Result<Unit<'a>, ItemFault>
+        requires ready { IsKept V.pair sections.now self.old }
+        requires short { length reader.old.block ≤ greatest_section }
+        ensures item { Gives result reader.new
+            (body_item sections.now origin version V.version reader.old) }
+        ensures stays { OnOk result (Stays reader.old reader.new) }
+        ensures ready { IsKept V.pair sections.now self.new }
+    {
+        let pairs = &self.pairs;
+        let tables = &mut self.tables;
+        read_body::<V>(alloc, sections, pairs, tables, origin, version, reader)
+    }
 }
 
 impl UpToFive {
-    /// No table of abbreviations is read yet.
-    pub fn new(alloc: Global) -> Self
-        ensures { (s : SectionBytes5)
-            → Keeps rows4 s result.four × Keeps rows5 s result.five }
+    /// No table of abbreviations of these sections is read yet.
+    pub fn new(alloc: Global, sections: &Sections5<'_>) -> Result<Self, NoMemory>
+        requires { length sections.now.base.abbreviations ≤ greatest_section }
+        ensures { IfOk result (AreKept sections.now) }
     {
-        UpToFive {
-            four: Tables::new(alloc),
-            five: Tables::new(alloc),
-        }
+        let four = Kept::new::<Four>(alloc, sections)?;
+        let five = Kept::new::<Five>(alloc, sections)?;
+        Ok(UpToFive { four, five })
     }
 }
 
 impl<'a> UnitVersions<'a> for UpToFive {
     ghost versions = { up_to5 };
 
-    ghost is_ready = { λ s v. Keeps rows4 s v.four × Keeps rows5 s v.five };
+    ghost is_ready = { AreKept };
 
     fn read_body(
         &mut self,
@@ -140,19 +183,21 @@ impl<'a> UnitVersions<'a> for UpToFive {
         version: u32,
         reader: &mut Reader<'a>,
     ) -> Result<Unit<'a>, ItemFault>
-        requires ready { Keeps rows4 sections.now self.old.four
-            × Keeps rows5 sections.now self.old.five }
+        requires ready { AreKept sections.now self.old }
         requires short { length reader.old.block ≤ greatest_section }
         ensures item { Gives result reader.new
             (item_or_none (option_map (body_item sections.now origin version) (up_to5 version))
             reader.old) }
         ensures stays { OnOk result (Stays reader.old reader.new) }
-        ensures ready { Keeps rows4 sections.now self.new.four
-            × Keeps rows5 sections.now self.new.five }
+        ensures ready { AreKept sections.now self.new }
     {
         match version {
-            5 => read_body::<Five>(alloc, sections, &mut self.five, origin, version, reader),
-            4 => read_body::<Four>(alloc, sections, &mut self.four, origin, version, reader),
+            5 => self
+                .five
+                .read_body::<Five>(alloc, sections, origin, version, reader),
+            4 => self
+                .four
+                .read_body::<Four>(alloc, sections, origin, version, reader),
             _ => Err(ItemFault::At(reader.at())),
         }
     }

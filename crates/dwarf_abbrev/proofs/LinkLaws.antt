@@ -83,6 +83,25 @@ module _ {T : Type 0} where
   map_past links zero past = refl
   map_past links (suc i) past = ap map_in (slice_get_past links i (omega (arith, past)))
 
+  -- ---- what lists begin with
+
+  front_stays : (before : List (List T)) (links : List (Link T)) (k : ℕ) (ys : List T) → slice_get before k ≡ Some ys → slice_get (fold with_link before links) k ≡ Some ys
+  front_stays before [] k ys e = e
+  front_stays before (l ∷ links) k ys e = front_stays (with_link before l) links k ys (get_front before ((l.value ∷ list_of before l.rest) ∷ []) k ys e)
+
+  begins : (before : List (List T)) (links : List (Link T)) (i k : ℕ) → k ≡ length before + i → slice_get (or_empty (slice_get (fold with_link before links) k)) 0 ≡ option_map (λ (l : Link T). l.value) (slice_get links i)
+  begins before [] i k is = ap (λ (o : Option (List T)). slice_get (or_empty o) 0) (slice_get_past before k (omega (arith, is)))
+  begins before (l ∷ links) zero k is =
+      let here = l.value ∷ list_of before l.rest in
+      let last : k ≡ length before = omega (arith, is) in
+      let there : slice_get (with_link before l) k ≡ Some here = ap (slice_get (with_link before l)) last ∙ get_last before here in
+      ap (λ (o : Option (List T)). slice_get (or_empty o) 0) (front_stays (with_link before l) links k here there)
+  begins before (l ∷ links) (suc i) k is = begins (with_link before l) links i k (omega (arith, is, length-append before ((l.value ∷ list_of before l.rest) ∷ [])))
+
+  pub first_is : (links : List (Link T)) (n : ℕ) → first_of links n ≡ slice_get (list_of (lists links) n) 0
+  first_is links zero = refl
+  first_is links (suc i) = sym (begins [] links i i (omega arith))
+
   -- ---- what finds values
 
   pub finds_none : (code : T → ℕ) → Finds code [] []

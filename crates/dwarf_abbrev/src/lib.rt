@@ -8,6 +8,6 @@ mod shared;
 mod table;
 
 pub use abbrev::{Abbrev, Abbrevs, Pair, Pairs};
-pub use read::{Row, abbrevs, read_abbrevs, read_row};
+pub use read::{Row, abbrevs, read_abbrevs, read_flag, read_row};
 pub use shared::SharedLists;
 pub use table::{Coded, Table};

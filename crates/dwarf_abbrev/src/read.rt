@@ -46,7 +46,7 @@ pub trait Row<'a>: Drop {
 
 /// Whether there are children: the byte 0 or 1.
 #[tactic(auto, unfolding(wasm_bytes::specs::Reading::one_of_item))]
-fn read_flag<'a>(reader: &mut Reader<'a>) -> Result<bool, Malformed>
+pub fn read_flag<'a>(reader: &mut Reader<'a>) -> Result<bool, Malformed>
     ensures item { Reads result reader.new (mapped is_one (one_of_item is_flag) reader.old) }
     ensures moves { OnOk result (Moves reader.old reader.new) }
 {

@@ -1,6 +1,6 @@
 //! Lists of values with codes, of which each is another one with a value in front.
 
-ghost use Rattle.std.specs.Prelude.{◌≡◌, ◌≤◌, ◌==◌, ◌++◌, ◌+◌, [], ◌∷◌, ℕ, find, length, IfOk, OnOk, OnErr};
+ghost use Rattle.std.specs.Prelude.{◌≡◌, ◌≤◌, ◌==◌, ◌++◌, ◌+◌, [], ◌∷◌, ℕ, find, length, slice_get, IfOk, OnOk, OnErr};
 ghost use Rattle.std.specs.Option.{option_copied};
 ghost use Rattle.dwarf_abbrev.specs.calls.Shared.{list_of};
 ghost use Rattle.dwarf_abbrev.specs.inner.Linked.{lists, first_of, map_of, Finds};
@@ -117,6 +117,14 @@ impl<T: Coded> SharedLists<T> {
         ensures err { OnErr result (self.new ≡ self.old) }
     {
         add_link(&mut self.links, &mut self.forks, value, rest)
+    }
+
+    /// The value that the list of a number begins with.
+    #[tactic(auto, using(crate::proofs::LinkLaws::first_is))]
+    pub fn first(&self, list: u32) -> Option<&T>
+        ensures { option_copied result ≡ slice_get (list_of self.now list) 0 }
+    {
+        first_of(self.links.as_slice(), list)
     }
 
     /// The first value of a code in the list of a number.

@@ -1,12 +1,9 @@
 -- The attributes of an entry, put together of its abbreviation and of its own values.
-use Rattle.std.proofs.Common.{◌≡◌, ℕ, zero, suc, ◌+◌, ◌≤◌, ◌⊎◌, Bool, true, false, cond, List, [], ◌∷◌, ◌++◌, length, map, drop, Option, Some, None, refl, sym, ap, subst, ◌∙◌, inl, inr, arith}
+use Rattle.std.proofs.Common.{◌≡◌, ℕ, zero, suc, ◌+◌, ◌<◌, ◌≤◌, ◌⊎◌, Bool, true, false, cond, List, [], ◌∷◌, ◌++◌, length, map, drop, Option, Some, None, refl, sym, ap, subst, ◌∙◌, inl, inr, arith}
 use Rattle.std.specs.Prelude.{◌==◌, ◌&&◌, ℤ, slice_get, option_and_then, unwrap_or, Ok, Err}
 use Rattle.std.specs.List.{list_all}
-use Rattle.std.specs.Option.{option_or, is_some, is_none}
-use Rattle.std.specs.Ordering.{nat_cmp, is_eq}
-use Rattle.std.proofs.lemmas.Bool.{eqb-true}
+use Rattle.std.specs.Option.{is_none}
 use Rattle.std.proofs.lemmas.Option.{slice_get_cases}
-use Rattle.pm_text.proofs.Lists.{is_eq_at}
 use Rattle.wasm_bytes.specs.declared.faults.ItemFault.{ItemFault}
 use Rattle.wasm_bytes.specs.declared.faults.ItemFault.TheVariants as faults
 use Rattle.wasm_bytes.specs.Place.{Place, Read}
@@ -24,7 +21,7 @@ use Rattle.dwarf_info.specs.declared.entry.Attribute.{Attribute}
 use Rattle.dwarf_info.specs.Attributes.{attribute}
 use Rattle.dwarf_info.specs.Values.{Context, plain_item, attribute_of, slot_item, attributes_item}
 use Rattle.dwarf_info.specs.inner.Settling.{settled_by, attribute_by, is_met, are_met}
-use Rattle.dwarf_info.specs.inner.Joined.{fixed, own_slots, joined_one, joined, held, counted, placed_in, value_at, AreOwn}
+use Rattle.dwarf_info.specs.inner.Joined.{fixed, takes_bytes, own_slots, joined_one, joined, held, counted, placed_in, value_at, AreOwn}
 use Rattle.dwarf_info.specs.inner.Reading.{slot_value, own_item}
 
 -- ---- forms with and without bytes
@@ -143,39 +140,15 @@ module _ (s : Slot) (slots : List Slot) (own : List AttrValue) (k : ℕ) where
         ap (λ (o : Option AttrValue). joined_one s o (joined slots) (drop k own)) f.0 ∙ ap (λ (vs : List AttrValue). joined_one s None (joined slots) vs) (drop_none own k none)
   ]
 
--- ---- where the first slot of an attribute stands
-
-pub or_none : {A : Type 0} (o : Option A) → option_or o None ≡ o
-or_none None = refl
-or_none (Some x) = refl
-
-stays : (o : Option SlotPlace) (x : SlotPlace) → is_some o ≡ true → o ≡ option_or o (Some x)
-stays (Some y) x some = refl
-stays None x some = absurd cc
-
-pub place_known : (get : ℕ → Option SlotPlace) (k : ℕ) (x : SlotPlace) (n : ℕ) → is_some (get k) ≡ true → get n ≡ option_or (get n) (cond (k == n) (Some x) None)
-place_known get k x n some = by (k == n) refl
-  where
-    by : (b : Bool) → (k == n) ≡ b → get n ≡ option_or (get n) (cond b (Some x) None)
-    by true e = stays (get n) x (ap (λ (j : ℕ). is_some (get j)) (sym (eqb-true k n e)) ∙ some)
-    by false e = sym (or_none (get n))
-
-absent : (o : Option SlotPlace) (x : SlotPlace) → is_some o ≡ false → Some x ≡ option_or o (Some x)
-absent None x none = refl
-absent (Some y) x none = absurd cc
-
-pub place_new : (before after : ℕ → Option SlotPlace) (k : ℕ) (x : SlotPlace) (n : ℕ) → is_some (before k) ≡ false → ((q : ℕ) → after q ≡ cond (is_eq (nat_cmp k q)) (Some x) (before q))
-    → after n ≡ option_or (before n) (cond (k == n) (Some x) None)
-place_new before after k x n none updates = updates n ∙ ap (λ (b : Bool). cond b (Some x) (before n)) (is_eq_at k n) ∙ by (k == n) refl
-  where
-    by : (b : Bool) → (k == n) ≡ b → cond b (Some x) (before n) ≡ option_or (before n) (cond b (Some x) None)
-    by true e = absent (before n) x (ap (λ (j : ℕ). is_some (before j)) (sym (eqb-true k n e)) ∙ none)
-    by false e = sym (or_none (before n))
-
-pub place_on : (o : Option SlotPlace) (b : Bool) (x : SlotPlace) (rest : Option SlotPlace) → option_or (option_or o (cond b (Some x) None)) rest ≡ option_or o (cond b (Some x) rest)
-place_on (Some y) b x rest = refl
-place_on None true x rest = refl
-place_on None false x rest = refl
+-- A slot that takes bytes has its value at a number that is there.
+pub count_low : (s : Slot) (own : List AttrValue) (k : ℕ) (v : AttrValue) → value_at own (held s.form k) ≡ Some v → takes_bytes s ≡ true → k < length own
+count_low s own k v e takes = elim (form_case s.form) [
+  | inl f ↦ absurd (let no : false ≡ true = sym (ap is_none f.1.is) ∙ takes in cc)
+  | inr f ↦ elim (slice_get_cases own k).1 [
+    | inl x ↦ x.1
+    | inr x ↦ absurd (let no : None ≡ Some v = sym x.1 ∙ sym (ap (value_at own) (f.1 k)) ∙ e in cc)
+  ]
+]
 
 -- ---- references
 

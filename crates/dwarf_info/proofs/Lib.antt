@@ -11,6 +11,9 @@ pub mod ReadLaws
 pub mod RowLaws
 pub mod KeepLaws
 pub mod JoinedLaws
+pub mod FourLaws
+pub mod KeptLaws
+pub mod PairLaws
 pub mod FormLaws
 pub mod PlaceLaws
 pub mod TextLaws

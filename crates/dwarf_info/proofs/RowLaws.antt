@@ -1,17 +1,18 @@
 -- Tables of abbreviations, row by row.
-use Rattle.std.proofs.Common.{◌≡◌, ℕ, zero, suc, ◌+◌, ◌-◌, ◌<◌, ◌≤◌, List, [], ◌∷◌, ◌++◌, length, map, Option, Some, None, refl, sym, ap, subst, ◌∙◌, arith}
-use Rattle.std.specs.Prelude.{option_map, IfSome, Ok, Err}
+use Rattle.std.proofs.Common.{◌≡◌, ℕ, zero, suc, ◌+◌, ◌-◌, ◌<◌, ◌≤◌, List, [], ◌∷◌, ◌++◌, length, Option, Some, None, refl, sym, ap, subst, ◌∙◌, arith}
+use Rattle.std.specs.Prelude.{option_map, IfSome, Result, Ok, Err}
 use Rattle.wasm_bytes.specs.declared.faults.ItemFault.{ItemFault}
 use Rattle.wasm_bytes.specs.declared.faults.ItemFault.TheVariants as faults
 use Rattle.wasm_bytes.specs.Place.{Place, Read}
-use Rattle.wasm_bytes.specs.calls.Answers.{Fails}
-use Rattle.wasm_bytes.specs.Reading.{◌>>=◌, mapped}
+use Rattle.wasm_bytes.specs.calls.Answers.{Fails, Gives}
+use Rattle.wasm_bytes.specs.Reading.{◌>>=◌}
 use Rattle.dwarf_bytes.specs.Items.{ended_from, reading_of, read_at}
 use Rattle.dwarf_abbrev.specs.calls.Shared.{list_of}
 use Rattle.dwarf_abbrev.proofs.LinkLaws.{list_front}
 use Rattle.dwarf_info.specs.declared.form.Shape.{Shape}
+use Rattle.dwarf_info.specs.declared.form.Slot.{Slot}
 use Rattle.dwarf_info.specs.declared.tables.PlacedRow.{PlacedRow}
-use Rattle.dwarf_info.specs.calls.Keeping.{Rows, FirstRow, IsTable}
+use Rattle.dwarf_info.specs.calls.Keeping.{Rows, FirstRow, IsTable, row_item, rows_of}
 use Rattle.dwarf_info.specs.inner.Rows.{IsRow, Leads}
 
 -- ---- a list that an end mark ends, by its first item
@@ -33,32 +34,7 @@ module _ {A : Type 0} (f : Place → Read (Option A)) (p q : Place) where
   unfolding ended_from
   none_read at n e = rw e refl
 
-pub mapped_read : {A B : Type 0} (to : A → B) (f : Place → Read A) (p : Place) → reading_of (mapped to f p) ≡ option_map to (reading_of (f p))
-mapped_read to f p = by (f p)
-  where
-    by : (r : Read _) → reading_of (r >>= λ x. Ok (to x.0, x.1)) ≡ option_map to (reading_of r)
-    by (Ok x) = refl
-    by (Err at) = refl
-
-pub mapped_more : {A B : Type 0} (to : A → B) (x : A) (o : Option (List A)) → option_map (map to) (option_map (λ more. x ∷ more) o) ≡ option_map (λ more. to x ∷ more) (option_map (map to) o)
-mapped_more to x (Some xs) = refl
-mapped_more to x None = refl
-
 -- ---- first rows
-
-module _ {A : Type 0} (to : A → Shape) (f : Place → Read (Option A)) (p q : Place) where
-  abbrev rows_by : Rows
-  rows_by n = mapped (map to) (ended_from f n)
-
-  pub first_gives : (o : Option A) → f p ≡ Ok (o, q) → FirstRow rows_by p (Ok (option_map to o)) q
-  first_gives (Some x) e = λ n.
-      mapped_read (map to) (ended_from f (suc n)) p ∙ ap (option_map (map to)) (first_read f p q x n e) ∙ mapped_more to x (reading_of (ended_from f n q))
-      ∙ ap (option_map (λ more. to x ∷ more)) (sym (mapped_read (map to) (ended_from f n) q))
-  first_gives None e = λ n. mapped_read (map to) (ended_from f (suc n)) p ∙ ap (option_map (map to)) (end_read f p q n e)
-
-  pub first_fails : (e : ItemFault) → Fails e (f p) → FirstRow rows_by p (Err e) q
-  first_fails (faults.At at) h = λ n. mapped_read (map to) (ended_from f (suc n)) p ∙ ap (option_map (map to)) (none_read f p q at n h)
-  first_fails faults.NoMemory h = tt
 
 module _ (f : Place → Read (Option Shape)) (p q : Place) where
   pub plain_gives : (o : Option Shape) → f p ≡ Ok (o, q) → FirstRow (ended_from f) p (Ok o) q
@@ -68,6 +44,10 @@ module _ (f : Place → Read (Option Shape)) (p q : Place) where
   pub plain_fails : (e : ItemFault) → Fails e (f p) → FirstRow (ended_from f) p (Err e) q
   plain_fails (faults.At at) h = λ n. none_read f p q at n h
   plain_fails faults.NoMemory h = tt
+
+pub first_row : (pair : Place → Read (Option Slot)) (p q : Place) (row : Result (Option Shape) ItemFault) → Gives row q (row_item pair p) → FirstRow (rows_of pair) p row q
+first_row pair p q (Ok o) h = plain_gives (row_item pair) p q o h
+first_row pair p q (Err e) h = plain_fails (row_item pair) p q e h
 
 -- ---- rows that lead from one offset to another
 
@@ -116,6 +96,10 @@ module _ (rows : Rows) (section : List ℕ) where
       (back.0, with_first r.at to r.shape table back.1 behind)
 
 -- ---- tables that are read, row by row
+
+pub none_of : (pair : Place → Read (Option Slot)) (p : Place) → reading_of (rows_of pair 0 p) ≡ None
+unfolding ended_from
+none_of pair p = refl
 
 module _ (shapes : Place → Read (List Shape)) (rows : Rows) (are : (p : Place) → shapes p ≡ rows (length p.block + 1 - p.at) p) (section : List ℕ) where
   pub none_past : ((p : Place) → reading_of (rows 0 p) ≡ None) → (at : ℕ) → length section < at → read_at shapes section at ≡ None

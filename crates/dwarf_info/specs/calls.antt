@@ -4,5 +4,6 @@ pub mod Grammar
 pub mod Grammar4
 pub mod Trees
 pub mod Keeping
+pub mod Pairs
 pub mod Rows4
 pub mod Sizes

@@ -1,5 +1,6 @@
 pub mod Contexts
 pub mod Joined
+pub mod Kept
 pub mod Reading
 pub mod Rows
 pub mod Settling

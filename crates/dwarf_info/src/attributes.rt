@@ -2,15 +2,15 @@
 
 ghost use Rattle.std.specs.Prelude.{◌≡◌, map, slice_get, IfOk};
 ghost use Rattle.std.specs.List.{list_all};
+ghost use Rattle.dwarf_abbrev.specs.calls.Shared.{list_of};
 ghost use Rattle.dwarf_info.specs.Attributes.{attribute};
 ghost use Rattle.dwarf_info.specs.inner.Joined.{joined, value_at, AreOwn};
 ghost use Rattle.dwarf_info.specs.inner.Settling.{placed, meets, settled_by, attribute_by, is_met, are_met};
 
 use crate::entry::{AttrValue, Attribute};
-use crate::form::Slot;
 use crate::places::Places;
 use crate::settle::{is_met, settled_value};
-use crate::slots::{SlotPlace, Slots, counted, held};
+use crate::slots::{SlotLists, SlotPlace, Slots, counted, held};
 use causes::NoMemory;
 use pm_text::Items;
 use std::alloc::Global;
@@ -75,17 +75,19 @@ fn value_at<'a>(own: &[AttrValue<'a>], place: SlotPlace) -> Option<AttrValue<'a>
     }
 }
 
-/// Each slot with its value.
-fn all_of<'a>(
+/// Each slot of a list with its value.
+pub fn all_of<'a>(
     alloc: Global,
-    slots: &[Slot],
+    lists: &SlotLists,
+    start: u32,
     own: &[AttrValue<'a>],
 ) -> Result<Items<Attribute<'a>>, NoMemory>
-    ensures { IfOk result (λ all. all ≡ joined slots.now own.now) }
+    ensures { IfOk result (λ all. all ≡ joined (list_of lists.now start) own.now) }
 {
     let mut all = Items::new(alloc);
     let mut count: usize = 0;
-    'slots: for slot in slots {
+    let mut list = start;
+    'slots: while let Some(slot) = lists.first(list) {
         let Some(value) = value_at(own, held(&slot.form, count)) else {
             return Ok(all);
         };
@@ -94,6 +96,7 @@ fn all_of<'a>(
             value,
         })?;
         count = counted(slot, count);
+        list = lists.rest(list);
     }
     Ok(all)
 }
@@ -149,7 +152,7 @@ impl<'a> Attributes<'a> {
     pub fn all(&self, alloc: Global) -> Result<Items<Attribute<'a>>, NoMemory>
         ensures { IfOk result (λ all. all ≡ self.now) }
     {
-        all_of(alloc, self.slots.as_slice(), self.own.as_slice())
+        self.slots.all(alloc, self.own.as_slice())
     }
 
     /// Each is no reference, or one that meets an entry.

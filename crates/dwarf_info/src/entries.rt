@@ -5,18 +5,20 @@ ghost use Rattle.std.specs.Prelude.{◌≡◌, ◌≤◌, ◌<◌, ◌+◌, ◌-
 ghost use Rattle.wasm_bytes.specs.Place.{Moves, Stays};
 ghost use Rattle.wasm_bytes.specs.Reading.{steps_while_due};
 ghost use Rattle.wasm_bytes.specs.calls.Answers.{Gives, with_state};
+ghost use Rattle.dwarf_abbrev.specs.calls.Shared.{list_of};
 ghost use Rattle.dwarf_info.specs.Sections.{greatest_section};
 ghost use Rattle.dwarf_info.specs.Values.{attributes_item};
 ghost use Rattle.dwarf_info.specs.inner.Contexts.{seen};
+ghost use Rattle.dwarf_info.specs.inner.Joined.{own_slots};
 ghost use Rattle.dwarf_info.specs.inner.Reading.{own_item};
 ghost use Rattle.dwarf_info.specs.Entries.{seed, closing_item, shape_item, step_item, is_whole, entries_item};
 
 use crate::attributes::Attributes;
 use crate::context::UnitContext;
 use crate::entry::{AttrValue, Entries, Entry};
-use crate::form::{Shape, Slot};
+use crate::form::Shape;
 use crate::growing::Growing;
-use crate::slots::Slots;
+use crate::slots::{SlotLists, Slots};
 use crate::value::read_slot;
 use crate::version::UnitVersion;
 use pm_text::Items;
@@ -42,21 +44,26 @@ impl<'a> Growing<'a> {
     }
 }
 
-/// The values of attributes that take bytes.
-fn read_own<'c, 'a, V: UnitVersion<'a>>(
+/// The values of the attributes of a list that take bytes.
+pub fn read_own<'c, 'a, V: UnitVersion<'a>>(
     alloc: Global,
     context: &UnitContext<'c, 'a, V::Index>,
-    slots: &[Slot],
+    lists: &SlotLists,
+    start: u32,
     reader: &mut Reader<'a>,
 ) -> Result<Items<AttrValue<'a>>, ItemFault>
-    ensures item { Gives result reader.new
-        (own_item (seen V.version V.looked context.now) slots.now reader.old) }
-    ensures count { IfOk result (λ own. length own ≡ length slots.now) }
+    ensures item { Gives result reader.new (own_item (seen V.version V.looked context.now)
+        (own_slots (list_of lists.now start)) reader.old) }
+    ensures count { IfOk result (λ own. length own
+        ≡ length (own_slots (list_of lists.now start))) }
     ensures stays { OnOk result (Stays reader.old reader.new) }
 {
-    let mut own = Vec::with_capacity(alloc, slots.len())?;
-    'slots: for slot in slots {
+    let mut own = Vec::with_capacity(alloc, lists.own_len(start))?;
+    let mut list = lists.own_from(start);
+    'slots: while let Some(slot) = lists.first(list) {
         own.push(read_slot::<V>(context, slot, reader)?)?;
+        let behind = lists.own_from(lists.rest(list));
+        list = behind;
     }
     Ok(Items::from_vec(own))
 }
@@ -73,7 +80,7 @@ pub fn read_attributes<'c, 'a, V: UnitVersion<'a>>(
         (attributes_item (seen V.version V.looked context.now) slots.now reader.old) }
     ensures stays { OnOk result (Stays reader.old reader.new) }
 {
-    let own = read_own::<V>(alloc, context, slots.own(), reader)?;
+    let own = slots.read_own::<V>(alloc, context, reader)?;
     let shared = slots.shared()?;
     Ok(Attributes::new(shared, own))
 }

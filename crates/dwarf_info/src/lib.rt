@@ -8,9 +8,12 @@ mod entries;
 mod entry;
 mod form;
 mod growing;
+mod known;
+mod marks;
 mod places;
 mod prepared;
 mod read;
+mod rows;
 mod sections;
 mod settle;
 mod slots;
@@ -29,6 +32,7 @@ pub use form::{
     Form, IndexTable, Meaning, NumberForm, Shape, Shapes, SizedForm, Slot, TextSection,
 };
 pub use growing::Growing;
+pub use known::KnownPairs;
 pub use places::EntryPlace;
 pub use prepared::PreparedSections;
 pub use read::{read_all, read_units};

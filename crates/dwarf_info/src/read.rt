@@ -55,6 +55,7 @@ pub fn read_units<'a>(alloc: Global, sections: &Sections<'a>) -> Result<Units<'a
     ensures exact { IfOk result (λ units. units ≡ units4 sections.now) }
     ensures spelled { IfOk result (IsUnits4 sections.now) }
 {
-    let mut versions = OnlyFour::new(alloc);
-    read_all(alloc, &Sections5::without5(sections), &mut versions)
+    let all = Sections5::without5(sections);
+    let mut versions = OnlyFour::new(alloc, &all)?;
+    read_all(alloc, &all, &mut versions)
 }

@@ -89,6 +89,13 @@ impl<'a> Sections5<'a> {
         }
     }
 
+    /// `.debug_abbrev`
+    pub(crate) fn abbreviations(&self) -> &'a [u8]
+        ensures { result.now ≡ self.now.base.abbreviations }
+    {
+        self.base.abbrev
+    }
+
     /// The same sections once more.
     pub fn borrowed(&self) -> Self
         ensures { result ≡ self.now }

@@ -5,10 +5,14 @@ ghost use Rattle.std.specs.Prelude.{◌≡◌, ◌≤◌, IfOk, OnOk, [], ◌∷
 ghost use Rattle.dwarf_bytes.specs.Items.{read_at};
 ghost use Rattle.dwarf_info.specs.Sections.{SectionBytes5};
 ghost use Rattle.dwarf_info.specs.calls.Keeping.{Rows, IsTable, IsThere, Keeps, KeepsIf, kept_at, numbered};
+ghost use Rattle.dwarf_info.specs.calls.Keeping.{rows_of};
+ghost use Rattle.dwarf_info.specs.calls.Pairs.{KnowsAll};
 ghost use Rattle.dwarf_info.specs.inner.Rows.{Leads};
 
 use crate::form::Shape;
+use crate::known::KnownPairs;
 use crate::prepared::PreparedSections;
+use crate::rows::read_row;
 use crate::version::UnitVersion;
 use causes::NoMemory;
 use dwarf_abbrev::SharedLists;
@@ -24,8 +28,6 @@ pub struct Tables {
     pub lists: SharedLists<Shape>,
     /// The numbers of tables, by where they stand; None where no table stands there.
     pub read: BTreeMap<u64, Option<u32>>,
-    /// How many rows and attributes were read, together.
-    pub size: usize,
 }
 
 /// A row of a table, with its offset.
@@ -50,7 +52,6 @@ impl Tables {
         Tables {
             lists: SharedLists::new(alloc),
             read: BTreeMap::new(alloc),
-            size: 0,
         }
     }
 
@@ -62,17 +63,6 @@ impl Tables {
             Some(Some(table)) => Some(Some(*table)),
             Some(None) => Some(None),
             None => None,
-        }
-    }
-
-    /// Lets all tables go where more than a section is kept of them: rows stand in rows there.
-    fn make_room(&mut self, alloc: Global, most: usize)
-        ensures { KeepsIf self.old self.new }
-    {
-        if self.size > most {
-            self.lists = SharedLists::new(alloc);
-            self.read = BTreeMap::new(alloc);
-            self.size = 0;
         }
     }
 
@@ -99,10 +89,6 @@ impl Tables {
         let Some(behind) = behind else {
             return Ok(None);
         };
-        self.size = self
-            .size
-            .saturating_add(shape.slots.len())
-            .saturating_add(1);
         let table = self.lists.push(shape, behind)?;
         Ok(Some(table))
     }
@@ -132,18 +118,20 @@ fn read_rows<'a, V: UnitVersion<'a>>(
     alloc: Global,
     sections: &PreparedSections<'a>,
     section: &'a [u8],
+    pairs: &KnownPairs,
     tables: &Tables,
     start: usize,
     rows: &mut Items<PlacedRow>,
 ) -> Result<Stop, NoMemory>
-    requires kept { Keeps V.rows sections.now tables.now }
+    requires kept { Keeps (rows_of V.pair) sections.now tables.now }
+    requires knows { KnowsAll V.pair sections.now pairs.now }
     requires section { section.now ≡ sections.now.base.abbreviations }
     requires inside { start ≤ length section.now }
     requires none { rows.old ≡ [] }
-    ensures led { IfOk result (λ stop. Leads V.rows sections.now.base.abbreviations rows.new
+    ensures led { IfOk result (λ stop. Leads (rows_of V.pair) sections.now.base.abbreviations rows.new
         start stop.at) }
     ensures there { IfOk result (λ stop. IsThere tables.now stop.table) }
-    ensures table { IfOk result (λ stop. IsTable V.rows sections.now.base.abbreviations stop.at
+    ensures table { IfOk result (λ stop. IsTable (rows_of V.pair) sections.now.base.abbreviations stop.at
         (numbered tables.now stop.table)) }
 {
     let mut reader = Reader::starting_at(section, start);
@@ -152,7 +140,7 @@ fn read_rows<'a, V: UnitVersion<'a>>(
         if let Some(table) = tables.known(at) {
             return Ok(Stop { at, table });
         }
-        let row = V::row(alloc, &mut reader);
+        let row = read_row::<V>(alloc, section, pairs, &mut reader);
         match row {
             Ok(Some(shape)) => rows.push(PlacedRow { at, shape })?,
             Ok(None) => return Ok(Stop { at, table: Some(0) }),
@@ -171,13 +159,13 @@ fn keep_rows<'a, V: UnitVersion<'a>>(
     rows: &mut Items<PlacedRow>,
     stop: Stop,
 ) -> Result<Option<u32>, NoMemory>
-    requires kept { Keeps V.rows sections.now tables.old }
-    requires led { Leads V.rows sections.now.base.abbreviations rows.old start stop.at }
+    requires kept { Keeps (rows_of V.pair) sections.now tables.old }
+    requires led { Leads (rows_of V.pair) sections.now.base.abbreviations rows.old start stop.at }
     requires there { IsThere tables.old stop.table }
-    requires table { IsTable V.rows sections.now.base.abbreviations stop.at
+    requires table { IsTable (rows_of V.pair) sections.now.base.abbreviations stop.at
         (numbered tables.old stop.table) }
-    ensures kept { Keeps V.rows sections.now tables.new }
-    ensures table { IfOk result (λ table. IsTable V.rows sections.now.base.abbreviations start
+    ensures kept { Keeps (rows_of V.pair) sections.now tables.new }
+    ensures table { IfOk result (λ table. IsTable (rows_of V.pair) sections.now.base.abbreviations start
         (numbered tables.new table)) }
 {
     let mut table = stop.table;
@@ -194,18 +182,20 @@ fn read_table<'a, V: UnitVersion<'a>>(
     alloc: Global,
     sections: &PreparedSections<'a>,
     section: &'a [u8],
+    pairs: &KnownPairs,
     tables: &mut Tables,
     at: usize,
 ) -> Result<Option<u32>, NoMemory>
-    requires kept { Keeps V.rows sections.now tables.old }
+    requires kept { Keeps (rows_of V.pair) sections.now tables.old }
+    requires knows { KnowsAll V.pair sections.now pairs.now }
     requires section { section.now ≡ sections.now.base.abbreviations }
     requires inside { at ≤ length section.now }
-    ensures kept { Keeps V.rows sections.now tables.new }
-    ensures table { IfOk result (λ table. IsTable V.rows sections.now.base.abbreviations at
+    ensures kept { Keeps (rows_of V.pair) sections.now tables.new }
+    ensures table { IfOk result (λ table. IsTable (rows_of V.pair) sections.now.base.abbreviations at
         (numbered tables.new table)) }
 {
     let mut rows = Items::new(alloc);
-    let stop = read_rows::<V>(alloc, sections, section, tables, at, &mut rows)?;
+    let stop = read_rows::<V>(alloc, sections, section, pairs, tables, at, &mut rows)?;
     let table = keep_rows::<V>(sections, tables, at as u64, &mut rows, stop)?;
     Ok(table)
 }
@@ -214,20 +204,7 @@ fn read_table<'a, V: UnitVersion<'a>>(
 fn abbreviations<'a>(sections: &PreparedSections<'a>) -> &'a [u8]
     ensures { result.now ≡ sections.now.base.abbreviations }
 {
-    sections.sections().base.abbrev
-}
-
-/// Lets all tables go where more than a section is kept of them.
-fn with_room<'a, V: UnitVersion<'a>>(
-    alloc: Global,
-    sections: &PreparedSections<'a>,
-    tables: &mut Tables,
-    most: usize,
-)
-    requires { Keeps V.rows sections.now tables.old }
-    ensures { Keeps V.rows sections.now tables.new }
-{
-    tables.make_room(alloc, most);
+    sections.sections().abbreviations()
 }
 
 /// The number of the table at an offset, if one stands there. What was read before is not read
@@ -235,20 +212,21 @@ fn with_room<'a, V: UnitVersion<'a>>(
 pub fn select<'a, V: UnitVersion<'a>>(
     alloc: Global,
     sections: &PreparedSections<'a>,
+    pairs: &KnownPairs,
     tables: &mut Tables,
     at: u64,
 ) -> Result<Option<u32>, NoMemory>
-    requires kept { Keeps V.rows sections.now tables.old }
+    requires kept { Keeps (rows_of V.pair) sections.now tables.old }
+    requires knows { KnowsAll V.pair sections.now pairs.now }
     ensures table { IfOk result (λ table. numbered tables.new table
         ≡ read_at V.version.shapes sections.now.base.abbreviations at) }
-    ensures kept { Keeps V.rows sections.now tables.new }
+    ensures kept { Keeps (rows_of V.pair) sections.now tables.new }
 {
     V::rows_are_shapes();
     let section = abbreviations(sections);
     if at > section.len() as u64 {
         return Ok(None);
     }
-    with_room::<V>(alloc, sections, tables, section.len());
-    let table = read_table::<V>(alloc, sections, section, tables, at as usize)?;
+    let table = read_table::<V>(alloc, sections, section, pairs, tables, at as usize)?;
     Ok(table)
 }

@@ -9,7 +9,8 @@ ghost use Rattle.dwarf_abbrev.specs.calls.Shared.{list_of};
 ghost use Rattle.dwarf_info.specs.Sections.{greatest_section};
 ghost use Rattle.dwarf_info.specs.Entries.{root_attributes};
 ghost use Rattle.dwarf_info.specs.inner.Contexts.{IsIndex};
-ghost use Rattle.dwarf_info.specs.calls.Keeping.{Keeps};
+ghost use Rattle.dwarf_info.specs.calls.Keeping.{Keeps, rows_of};
+ghost use Rattle.dwarf_info.specs.calls.Pairs.{KnowsAll};
 ghost use Rattle.dwarf_info.specs.Units.{rooted_item, padding_item, body_item, unit_item, whole_unit};
 
 use crate::attributes::Attributes;
@@ -18,6 +19,7 @@ use crate::entries::{read_entries, step};
 use crate::entry::{Entries, Unit};
 use crate::form::Shape;
 use crate::growing::Growing;
+use crate::known::KnownPairs;
 use crate::prepared::PreparedSections;
 use crate::tables::{Tables, select};
 use crate::version::{UnitVersion, UnitVersions};
@@ -90,20 +92,22 @@ fn read_rooted<'a, V: UnitVersion<'a>>(
 pub fn read_body<'a, V: UnitVersion<'a>>(
     alloc: Global,
     sections: &PreparedSections<'a>,
+    pairs: &KnownPairs,
     tables: &mut Tables,
     origin: u32,
     version: u32,
     reader: &mut Reader<'a>,
 ) -> Result<Unit<'a>, ItemFault>
-    requires kept { Keeps V.rows sections.now tables.old }
+    requires knows { KnowsAll V.pair sections.now pairs.now }
+    requires kept { Keeps (rows_of V.pair) sections.now tables.old }
     requires short { length reader.old.block ≤ greatest_section }
     ensures item { Gives result reader.new
         (body_item sections.now origin version V.version reader.old) }
     ensures stays { OnOk result (Stays reader.old reader.new) }
-    ensures kept { Keeps V.rows sections.now tables.new }
+    ensures kept { Keeps (rows_of V.pair) sections.now tables.new }
 {
     let offset = V::header(reader)?;
-    match select::<V>(alloc, sections, tables, offset)? {
+    match select::<V>(alloc, sections, pairs, tables, offset)? {
         Some(table) => {
             let lists = &tables.lists;
             let entries = read_rooted::<V>(alloc, sections, origin, lists, table, reader)?;

@@ -6,16 +6,17 @@ ghost use Rattle.wasm_bytes.specs.Place.{Place, Moves, Stays};
 ghost use Rattle.wasm_bytes.specs.calls.Answers.{Reads, Gives};
 ghost use Rattle.dwarf_info.specs.declared.form.IndexTable.{IndexTable};
 ghost use Rattle.dwarf_info.specs.declared.entry.AttrValue.{AttrValue};
-ghost use Rattle.dwarf_bytes.specs.Items.{item_or_none, reading_of};
+ghost use Rattle.dwarf_bytes.specs.Items.{item_or_none};
 ghost use Rattle.dwarf_info.specs.Sections.{SectionBytes5, greatest_section};
 ghost use Rattle.dwarf_info.specs.Forms.{form_of};
 ghost use Rattle.dwarf_info.specs.Units.{Version, Versions, body_item};
-ghost use Rattle.dwarf_info.specs.calls.Keeping.{Rows, FirstRow};
+ghost use Rattle.dwarf_info.specs.calls.Keeping.{rows_of};
+ghost use Rattle.dwarf_info.specs.calls.Pairs.{Pair};
 ghost use Rattle.dwarf_info.specs.calls.Sizes.{IsSized};
 
 use crate::attributes::Attributes;
 use crate::entry::{AttrValue, Unit};
-use crate::form::{Form, IndexTable, Shape};
+use crate::form::{Form, IndexTable, Slot};
 use crate::prepared::PreparedSections;
 use std::alloc::Global;
 use wasm_bytes::{ItemFault, Malformed, Reader};
@@ -41,19 +42,17 @@ pub trait UnitVersion<'a>: Drop {
         ensures item { Reads result reader.new (version.header reader.old) }
         ensures stays { OnOk result (Stays reader.old reader.new) };
 
-    /// A table of abbreviations of fewer rows than a number.
-    ghost rows: { Rows };
+    /// A pair of a row, with the form of its code, or None for the end mark.
+    ghost pair: { Pair };
 
-    /// The first row of the table of abbreviations at a place, with the forms of its codes, or None
-    /// at its end.
-    fn row(alloc: Global, reader: &mut Reader<'a>) -> Result<Option<Shape>, ItemFault>
-        ensures item { FirstRow rows reader.old result reader.new }
+    fn read_pair(reader: &mut Reader<'a>) -> Result<Option<Slot>, Malformed>
+        ensures item { Reads result reader.new (pair reader.old) }
         ensures moves { OnOk result (Moves reader.old reader.new) };
 
     /// A table has fewer rows than a byte more than stands behind its offset.
     fn rows_are_shapes()
-        ensures are { (p : Place) → version.shapes p ≡ rows (length p.block + 1 - p.at) p }
-        ensures none { (p : Place) → reading_of (rows 0 p) ≡ None };
+        ensures { (p : Place) → version.shapes p
+            ≡ rows_of pair (length p.block + 1 - p.at) p };
 
     /// What indices are looked up by, in a unit whose root has these attributes.
     fn index(root: Option<&Attributes<'a>>) -> Self::Index

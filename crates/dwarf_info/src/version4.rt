@@ -1,26 +1,29 @@
 //! Units of version 4 (DWARF 4 section 7.5.1.1).
 
-ghost use Rattle.std.specs.Prelude.{◌≡◌, [], map, option_copied, unwrap_or, IfOk, IfSome};
+ghost use Rattle.std.specs.Prelude.{◌≡◌, ◌≤◌, [], length, option_copied, unwrap_or, IfOk, IfSome, OnOk};
+ghost use Rattle.wasm_bytes.specs.Place.{Moves};
+ghost use Rattle.wasm_bytes.specs.calls.Answers.{Reads};
 ghost use Rattle.dwarf_info.specs.Forms.{forms4, form_of};
-ghost use Rattle.dwarf_info.specs.Version4.{slot_of, shape_in, header4_item, version4, only4};
-ghost use Rattle.dwarf_info.specs.Sections.{SectionBytes5};
+ghost use Rattle.dwarf_info.specs.Version4.{slot_of, header4_item, version4, only4};
+ghost use Rattle.dwarf_info.specs.Sections.{SectionBytes5, greatest_section};
 ghost use Rattle.dwarf_info.specs.inner.Contexts.{no_index};
 ghost use Rattle.dwarf_info.specs.calls.Keeping.{Keeps};
-ghost use Rattle.dwarf_info.specs.calls.Rows4.{rows4};
+ghost use Rattle.dwarf_info.specs.calls.Pairs.{KnowsAll};
+ghost use Rattle.dwarf_info.specs.calls.Rows4.{pair4, rows4};
 ghost use Rattle.dwarf_info.specs.calls.Sizes.{IsSized};
 
 use crate::attributes::Attributes;
 use crate::entry::{AttrValue, Unit};
-use crate::form::{Form, IndexTable, Meaning, NumberForm, Shape, SizedForm, Slot, TextSection};
+use crate::form::{Form, IndexTable, Meaning, NumberForm, SizedForm, Slot, TextSection};
+use crate::known::KnownPairs;
 use crate::prepared::PreparedSections;
-use crate::slots::Slots;
+use crate::sections::Sections5;
 use crate::tables::Tables;
 use crate::unit::read_body;
 use crate::version::{UnitVersion, UnitVersions};
 use causes::NoMemory;
-use dwarf_abbrev::{Abbrev, Pair, read_row};
+use dwarf_abbrev::Pair;
 use dwarf_bytes::number;
-use pm_text::Items;
 use std::alloc::Global;
 use wasm_bytes::{ItemFault, Malformed, Reader};
 
@@ -71,26 +74,18 @@ fn slot(pair: &Pair) -> Slot
     }
 }
 
-fn slots(alloc: Global, pairs: &[Pair]) -> Result<Items<Slot>, NoMemory>
-    ensures { IfOk result (λ slots. slots ≡ map (slot_of forms4) pairs.now) }
+/// A pair of a row, or None for the end mark.
+#[tactic(auto, unfolding(dwarf_abbrev::specs::Reading::pair_item))]
+fn read_pair4(reader: &mut Reader<'_>) -> Result<Option<Slot>, Malformed>
+    ensures item { Reads result reader.new (pair4 reader.old) }
+    ensures moves { OnOk result (Moves reader.old reader.new) }
 {
-    let mut slots = Vec::new(alloc);
-    for pair in pairs {
-        slots.push(slot(pair))?;
+    let attribute = reader.u64()?;
+    let form = reader.u64()?;
+    if attribute == 0 && form == 0 {
+        return Ok(None);
     }
-    Ok(Items::from_vec(slots))
-}
-
-fn shape(alloc: Global, row: &Abbrev) -> Result<Shape, NoMemory>
-    ensures { IfOk result (λ shape. shape ≡ shape_in forms4 row.now) }
-{
-    let slots = slots(alloc, row.pairs.as_slice())?;
-    Ok(Shape {
-        code: row.code,
-        tag: row.tag,
-        children: row.children,
-        slots: Slots::new(alloc, slots)?,
-    })
+    Ok(Some(slot(&Pair { attribute, form })))
 }
 
 /// Version 4, in which no form is an index.
@@ -102,7 +97,7 @@ impl<'a> UnitVersion<'a> for Four {
 
     ghost version = { version4 };
 
-    ghost rows = { rows4 };
+    ghost pair = { pair4 };
 
     ghost looked = { λ _ _. no_index };
 
@@ -121,15 +116,11 @@ impl<'a> UnitVersion<'a> for Four {
         Ok(offset)
     }
 
-    fn row(alloc: Global, reader: &mut Reader<'a>) -> Result<Option<Shape>, ItemFault> {
-        let row: Option<Abbrev> = read_row(alloc, reader)?;
-        match row {
-            Some(row) => Ok(Some(shape(alloc, &row)?)),
-            None => Ok(None),
-        }
+    fn read_pair(reader: &mut Reader<'a>) -> Result<Option<Slot>, Malformed> {
+        read_pair4(reader)
     }
 
-    #[tactic(auto, unfolding(crate::specs::Version4::shapes4_item, dwarf_abbrev::specs::Reading::abbrevs_item, dwarf_abbrev::specs::Reading::table_item, dwarf_bytes::specs::Items::ended_item, dwarf_bytes::specs::Items::ended_from))]
+    #[tactic(auto, using(crate::proofs::FourLaws::rows_are))]
     fn rows_are_shapes() {}
 
     fn index(root: Option<&Attributes<'a>>)
@@ -155,24 +146,29 @@ impl<'a> UnitVersion<'a> for Four {
 /// Version 4 alone.
 #[derive(Drop)]
 pub struct OnlyFour {
+    pairs: KnownPairs,
     tables: Tables,
 }
 
 impl OnlyFour {
-    /// No table of abbreviations is read yet.
-    pub fn new(alloc: Global) -> Self
-        ensures { (s : SectionBytes5) → Keeps rows4 s result.tables }
+    /// No table of abbreviations of these sections is read yet.
+    pub fn new(alloc: Global, sections: &Sections5<'_>) -> Result<Self, NoMemory>
+        requires { length sections.now.base.abbreviations ≤ greatest_section }
+        ensures { IfOk result (λ v. KnowsAll pair4 sections.now v.pairs
+            × Keeps rows4 sections.now v.tables) }
     {
-        OnlyFour {
+        let pairs = KnownPairs::of::<Four>(alloc, sections)?;
+        Ok(OnlyFour {
+            pairs,
             tables: Tables::new(alloc),
-        }
+        })
     }
 }
 
 impl<'a> UnitVersions<'a> for OnlyFour {
     ghost versions = { only4 };
 
-    ghost is_ready = { λ s v. Keeps rows4 s v.tables };
+    ghost is_ready = { λ s v. KnowsAll pair4 s v.pairs × Keeps rows4 s v.tables };
 
     fn read_body(
         &mut self,
@@ -185,6 +181,8 @@ impl<'a> UnitVersions<'a> for OnlyFour {
         if version != 4 {
             return Err(ItemFault::At(reader.at()));
         }
-        read_body::<Four>(alloc, sections, &mut self.tables, origin, version, reader)
+        let pairs = &self.pairs;
+        let tables = &mut self.tables;
+        read_body::<Four>(alloc, sections, pairs, tables, origin, version, reader)
     }
 }

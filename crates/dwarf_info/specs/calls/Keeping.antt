@@ -1,13 +1,16 @@
 -- The tables of abbreviations that were read.
-use Rattle.std.specs.Prelude.{◌≡◌, ◌≤◌, ◌+◌, ◌-◌, ℕ, suc, List, [], ◌∷◌, length, Option, Some, None, option_map, IfSome, Result, Ok, Err}
+use Rattle.std.specs.Prelude.{◌≡◌, ◌≤◌, ◌+◌, ◌-◌, ℕ, suc, List, [], ◌∷◌, length, Option, Some, None, Bool, option_map, IfSome, Result, Ok, Err}
 use Rattle.std.specs.Ordering.{nat_cmp}
 use Rattle.std.specs.BTreeMap.{get}
 use Rattle.wasm_bytes.specs.declared.faults.ItemFault.{ItemFault}
 use Rattle.wasm_bytes.specs.declared.faults.ItemFault.TheVariants as faults
 use Rattle.wasm_bytes.specs.Place.{Place, Read}
-use Rattle.dwarf_bytes.specs.Items.{reading_of}
+use Rattle.wasm_bytes.specs.Reading.{◌▷◌, u64_item}
+use Rattle.dwarf_bytes.specs.Items.{ended_from, reading_of}
+use Rattle.dwarf_abbrev.specs.Reading.{behind_code}
 use Rattle.dwarf_abbrev.specs.calls.Shared.{list_of}
 use Rattle.dwarf_info.specs.declared.form.Shape.{Shape}
+use Rattle.dwarf_info.specs.declared.form.Slot.{Slot}
 use Rattle.dwarf_info.specs.declared.tables.Tables.{Tables}
 use Rattle.dwarf_info.specs.Sections.{SectionBytes5}
 
@@ -16,6 +19,17 @@ use Rattle.dwarf_info.specs.Sections.{SectionBytes5}
 -- a table of fewer rows than a number
 abbrev pub Rows : Type 0
 Rows = ℕ → Place → Read (List Shape)
+
+-- what is made of a row's code and tag, of whether there are children, and of its pairs
+abbrev pub shape_of : ℕ → ℕ → Bool → List Slot → Shape
+shape_of code tag children slots = record { code = code; tag = tag; children = children; slots = slots }
+
+-- a row by an item of its pairs, or the end mark
+abbrev pub row_item : (Place → Read (Option Slot)) → Place → Read (Option Shape)
+row_item pair = u64_item ▷ behind_code shape_of pair
+
+abbrev pub rows_of : (Place → Read (Option Slot)) → Rows
+rows_of pair n = ended_from (row_item pair) n
 
 -- The first row of the table at a place was read, and left the reader at another one.
 abbrev pub FirstRow : Rows → Place → Result (Option Shape) ItemFault → Place → Type 0

@@ -1,11 +1,15 @@
 -- Tables of abbreviations of version 4, of fewer rows than a number (DWARF 4, 7.5.3).
-use Rattle.std.specs.Prelude.{map}
-use Rattle.wasm_bytes.specs.Reading.{◌▷◌, mapped, done_item, u64_item}
-use Rattle.dwarf_bytes.specs.Items.{ended_from}
-use Rattle.dwarf_abbrev.specs.Reading.{pair_item, behind_code, abbrev_of}
+use Rattle.std.specs.Prelude.{Option}
+use Rattle.wasm_bytes.specs.Place.{Place, Read}
+use Rattle.wasm_bytes.specs.Reading.{done_item}
+use Rattle.dwarf_abbrev.specs.Reading.{pair_item}
+use Rattle.dwarf_info.specs.declared.form.Slot.{Slot}
 use Rattle.dwarf_info.specs.Forms.{forms4}
-use Rattle.dwarf_info.specs.Version4.{shape_in}
-use Rattle.dwarf_info.specs.calls.Keeping.{Rows}
+use Rattle.dwarf_info.specs.Version4.{slot_of}
+use Rattle.dwarf_info.specs.calls.Keeping.{Rows, rows_of}
+
+abbrev pub pair4 : Place → Read (Option Slot)
+pair4 = pair_item (λ x. done_item (slot_of forms4 x))
 
 abbrev pub rows4 : Rows
-rows4 n = mapped (map (shape_in forms4)) (ended_from (u64_item ▷ behind_code abbrev_of (pair_item done_item)) n)
+rows4 = rows_of pair4

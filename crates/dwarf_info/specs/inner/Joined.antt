@@ -1,7 +1,5 @@
 -- The attributes of an entry: what stands in its abbreviation, and what stands in its own bytes.
 use Rattle.std.specs.Prelude.{◌≡◌, ◌==◌, ℕ, suc, Bool, true, List, [], ◌∷◌, length, filter, slice_get, Option, Some, None, is_none, if◌then◌else◌}
-use Rattle.std.specs.Ordering.{nat_cmp}
-use Rattle.std.specs.BTreeMap.{get, BTreeMap}
 use Rattle.dwarf_info.specs.declared.form.Form.{Form}
 use Rattle.dwarf_info.specs.declared.form.Form.TheVariants as form
 use Rattle.dwarf_info.specs.declared.form.Slot.{Slot}
@@ -56,10 +54,6 @@ abbrev pub value_at : List AttrValue → SlotPlace → Option AttrValue
 value_at own place.Present = Some (value.Flag true)
 value_at own (place.Implicit z) = Some (value.Signed z)
 value_at own (place.Own n) = slice_get own n
-
--- A map has the place of each attribute.
-abbrev pub Places : List Slot → BTreeMap ℕ SlotPlace → Type 0
-Places slots places = (name : ℕ) → get nat_cmp places name ≡ placed_in name slots 0
 
 -- Each slot that takes bytes has its value.
 abbrev pub AreOwn : List Slot → List AttrValue → Type 0

@@ -1,22 +1,38 @@
-use Rattle.std.proofs.Common.{[], ◌∷◌, length, length-append, ap, arith}
+use Rattle.std.proofs.Common.{◌≡◌, ◌<◌, ◌+◌, List, [], ◌∷◌, Some, None, length, length-append, ap, sym, ◌∙◌, arith}
+use Rattle.std.specs.Prelude.{slice_get}
+use Rattle.std.specs.Option.{option_copied}
 use Rattle.std.proofs.lemmas.Result.{err_from_is_err_and}
 use Rattle.wasm_bytes.specs.declared.faults.ItemFault.TheVariants as faults
 use Rattle.wasm_bytes.proofs.Loops.{in_front, one_more, no_more, left_fails}
-use Rattle.dwarf_bytes.proofs.Loops.{each_on, each_fails, each_done}
+use Rattle.dwarf_abbrev.specs.calls.Shared.{list_of}
+use Rattle.dwarf_info.specs.declared.form.Slot.{Slot}
+use Rattle.dwarf_info.specs.inner.Joined.{own_slots}
 use Rattle.dwarf_info.specs.inner.Reading.{slot_value, own_item}
 use Rattle.dwarf_info.specs.inner.Contexts.{seen}
+use Rattle.dwarf_info.proofs.KeptLaws.{own_next, own_first, nothing, each_one, each_stops, each_none}
 use Rattle.dwarf_info.proofs.entries.read_own.Goals as goal
+
+pub slots-smaller : goal.slots-smaller
+slots-smaller g c =
+    let lists = c.args.lists.now in
+    let e : slice_get (list_of lists c.slots.list) 0 ≡ Some c.in-Some.slot.now = sym c.first.ensures ∙ ap (λ o. option_copied o) c.in-Some.is in
+    let on = own_next lists c.slots.list c.rest.result c.own_from-behind.result c.in-Some.slot.now c.slots.invariant.begins e c.rest.ensures c.own_from-behind.ensures.same in
+    omega (arith, ap length on)
 
 pub slots-preserved : goal.slots-preserved
 unfolding own_item
 slots-preserved g c =
     let f = slot_value (seen g.V.UnitVersion.version g.V.UnitVersion.looked c.args.context.now) in
-    let s = c.slots.invariant.so_far in
-    let on = each_on f c.args.slots.now c.slots.slot-index c.slot-item.result c.slots.reader c.read_slot.new.reader c.in_ok-read_slot.field-0 c.slots-test.true c.slot-item.is c.in_ok-read_slot.ensures.item in
+    let lists = c.args.lists.now in
+    let s = c.in-Some.slot.now in
+    let e : slice_get (list_of lists c.slots.list) 0 ≡ Some s = sym c.first.ensures ∙ ap (λ o. option_copied o) c.in-Some.is in
+    let is = own_next lists c.slots.list c.rest.result c.own_from-behind.result s c.slots.invariant.begins e c.rest.ensures c.own_from-behind.ensures.same in
+    let left = own_slots (list_of lists c.own_from-behind.result) in
+    let on = each_one f s left (own_slots (list_of lists c.slots.list)) c.slots.reader c.read_slot.new.reader c.in_ok-read_slot.field-0 is c.in_ok-read_slot.ensures.item in
     record {
-      count = omega (arith, c.slots.invariant.count, ap length c.in_ok-push.ensures.items, length-append c.slots.own.items (c.in_ok-read_slot.field-0 ∷ []), c.slots-test.true);
-      most = omega (arith, c.slots-test.true);
-      so_far = rw c.in_ok-push.ensures.items (one_more _ _ c.slots.own.items c.in_ok-read_slot.field-0 (rw on at s));
+      so_far = rw c.in_ok-push.ensures.items (one_more _ _ c.slots.own.items c.in_ok-read_slot.field-0 (rw on at c.slots.invariant.so_far));
+      begins = c.own_from-behind.ensures.begins;
+      count = omega (arith, c.slots.invariant.count, ap length is, ap length c.in_ok-push.ensures.items, length-append c.slots.own.items (c.in_ok-read_slot.field-0 ∷ []));
       stays = grind arith;
     }
 
@@ -24,16 +40,25 @@ pub returns-in_err-read_slot-clause-item : goal.returns-in_err-read_slot-clause-
 unfolding own_item
 returns-in_err-read_slot-clause-item g c =
     let f = slot_value (seen g.V.UnitVersion.version g.V.UnitVersion.looked c.args.context.now) in
+    let lists = c.args.lists.now in
+    let s = c.in-Some.slot.now in
     let p = err_from_is_err_and c.from_residual-in_err-read_slot.result c.from_residual-in_err-read_slot.ensures.1 in
-    let failing = each_fails f c.args.slots.now c.slots.slot-index c.slot-item.result c.slots.reader c.in_err-read_slot.field-0.0.at c.slots-test.true c.slot-item.is c.in_err-read_slot.ensures.item in
+    let e : slice_get (list_of lists c.slots.list) 0 ≡ Some s = sym c.first.ensures ∙ ap (λ o. option_copied o) c.in-Some.is in
+    let is = own_first (list_of lists c.slots.list) s c.slots.invariant.begins e in
+    let failing = each_stops f s _ (own_slots (list_of lists c.slots.list)) c.slots.reader c.in_err-read_slot.field-0.0.at is c.in_err-read_slot.ensures.item in
     rw (p.1, p.2) (left_fails _ _ (in_front c.slots.own.items) (faults.At c.in_err-read_slot.field-0.0.at) c.slots.invariant.so_far failing)
 
 pub returns-clause-count : goal.returns-clause-count
-returns-clause-count g c = omega (arith, c.slots.invariant.count, c.slots.invariant.most, c.slots-test.false, ap length c.from_vec.ensures)
+returns-clause-count g c =
+    let lists = c.args.lists.now in
+    let none : slice_get (list_of lists c.slots.list) 0 ≡ None = sym c.first.ensures ∙ ap (λ o. option_copied o) c.in_default.is in
+    omega (arith, c.slots.invariant.count, ap (λ (xs : List Slot). length (own_slots xs)) (nothing (list_of lists c.slots.list) none), ap length c.from_vec.ensures)
 
 pub returns-clause-item : goal.returns-clause-item
 unfolding own_item
 returns-clause-item g c =
     let f = slot_value (seen g.V.UnitVersion.version g.V.UnitVersion.looked c.args.context.now) in
-    let done = each_done f c.args.slots.now c.slots.slot-index c.slots.reader c.slots-test.false in
+    let lists = c.args.lists.now in
+    let none : slice_get (list_of lists c.slots.list) 0 ≡ None = sym c.first.ensures ∙ ap (λ o. option_copied o) c.in_default.is in
+    let done = each_none f (own_slots (list_of lists c.slots.list)) c.slots.reader (ap own_slots (nothing (list_of lists c.slots.list) none)) in
     rw c.from_vec.ensures (no_more _ c.slots.own.items c.slots.reader (rw done at c.slots.invariant.so_far))

@@ -1,16 +1,16 @@
 use Rattle.std.proofs.Common.{◌≡◌, ℕ, false, true, List, [], ◌∷◌, Option, sym, ap, subst, length, length-append, arith}
 use Rattle.dwarf_info.specs.declared.form.Shape.{Shape}
-use Rattle.dwarf_info.specs.calls.Keeping.{IsTable, numbered}
+use Rattle.dwarf_info.specs.calls.Keeping.{IsTable, numbered, rows_of}
 use Rattle.dwarf_info.proofs.RowLaws.{leads_end, last_table}
 use Rattle.dwarf_info.proofs.KeepLaws.{there_same, table_same}
 use Rattle.dwarf_info.proofs.tables.keep_rows.Goals as goal
 
 pub returns-in_err-keep-clause-kept : goal.returns-in_err-keep-clause-kept
-returns-in_err-keep-clause-kept g c = c.keep.ensures.kept g.V.UnitVersion.rows c.args.sections.now c.requires.kept c.requires.table
+returns-in_err-keep-clause-kept g c = c.keep.ensures.kept (rows_of g.V.UnitVersion.pair) c.args.sections.now c.requires.kept c.requires.table
 
 pub rows-init : goal.rows-init
 rows-init g c =
-    let rows = g.V.UnitVersion.rows in
+    let rows = (rows_of g.V.UnitVersion.pair) in
     let section = c.args.sections.now.base.abbreviations in
     record {
       kept = c.keep.ensures.kept rows c.args.sections.now c.requires.kept c.requires.table;
@@ -23,7 +23,7 @@ rows-smaller g c = omega (arith, ap length c.in-Some.ensures.value, length-appen
 
 pub rows-preserved : goal.rows-preserved
 rows-preserved g c =
-    let rows = g.V.UnitVersion.rows in
+    let rows = (rows_of g.V.UnitVersion.pair) in
     let section = c.args.sections.now.base.abbreviations in
     let b = last_table rows section c.rows.rows c.pop.new.self c.in-Some.row c.args.start c.rows.invariant.led.0 (numbered c.rows.tables c.rows.table) c.in-Some.ensures.value c.rows.invariant.led.1 c.rows.invariant.led.2 in
     record {
@@ -34,14 +34,14 @@ rows-preserved g c =
 
 pub returns-in_err-first-clause-kept : goal.returns-in_err-first-clause-kept
 returns-in_err-first-clause-kept g c =
-    let rows = g.V.UnitVersion.rows in
+    let rows = (rows_of g.V.UnitVersion.pair) in
     let section = c.args.sections.now.base.abbreviations in
     let b = last_table rows section c.rows.rows c.pop.new.self c.in-Some.row c.args.start c.rows.invariant.led.0 (numbered c.rows.tables c.rows.table) c.in-Some.ensures.value c.rows.invariant.led.1 c.rows.invariant.led.2 in
     c.with_row.ensures.kept rows c.args.sections.now c.rows.invariant.kept b.1
 
 pub returns-clause-table : goal.returns-clause-table
 returns-clause-table g c =
-    let rows = g.V.UnitVersion.rows in
+    let rows = (rows_of g.V.UnitVersion.pair) in
     let section = c.args.sections.now.base.abbreviations in
     let next = c.rows.invariant.led.0 in
     let same : c.args.start ≡ next = leads_end rows section c.rows.rows c.args.start next (λ some. (let no : false ≡ true = c.in_default.ensures.variant.1 some in cc)) c.rows.invariant.led.1 in

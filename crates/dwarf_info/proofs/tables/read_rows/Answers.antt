@@ -1,17 +1,20 @@
-use Rattle.std.proofs.Common.{◌≡◌, ◌≤◌, ℕ, List, [], length, Option, Some, None, Result, Ok, Err, sym, ap, subst, ◌∙◌, arith}
+use Rattle.std.proofs.Common.{◌≡◌, ◌≤◌, ℕ, List, [], length, Option, Some, None, Result, Ok, Err, refl, sym, ap, subst, ◌∙◌, arith}
+use Rattle.std.specs.Ordering.{nat_cmp}
+use Rattle.std.specs.BTreeMap.{get}
 use Rattle.wasm_bytes.specs.declared.faults.ItemFault.{ItemFault}
 use Rattle.wasm_bytes.specs.declared.faults.ItemFault.TheVariants as faults
 use Rattle.wasm_bytes.specs.Place.{Place}
 use Rattle.dwarf_info.specs.declared.form.Shape.{Shape}
 use Rattle.dwarf_info.specs.declared.tables.PlacedRow.{PlacedRow}
-use Rattle.dwarf_info.specs.calls.Keeping.{FirstRow}
+use Rattle.dwarf_info.specs.calls.Keeping.{FirstRow, rows_of}
+use Rattle.dwarf_info.specs.calls.Pairs.{Knows}
 use Rattle.dwarf_info.specs.inner.Rows.{IsRow, Leads}
 use Rattle.dwarf_info.proofs.RowLaws.{place_is, is_row, first_table, leads_on}
 use Rattle.dwarf_info.proofs.tables.read_rows.Goals as goal
 
 pub rows-init : goal.rows-init
 rows-init g c =
-    let rows = g.V.UnitVersion.rows in
+    let rows = (rows_of g.V.UnitVersion.pair) in
     let section = c.args.sections.now.base.abbreviations in
     let start : c.args.start ≡ c.starting_at-reader.result.at = sym (ap (λ (p : Place). p.at) c.starting_at-reader.ensures) in
     record {
@@ -21,10 +24,10 @@ rows-init g c =
 
 pub rows-preserved : goal.rows-preserved
 rows-preserved g c =
-    let rows = g.V.UnitVersion.rows in
+    let rows = (rows_of g.V.UnitVersion.pair) in
     let section = c.args.sections.now.base.abbreviations in
     let p = c.rows.reader in
-    let q = c.row-row.new.reader in
+    let q = c.read_row-row.new.reader in
     let shape = c.in-Ok-Some.shape in
     let r : PlacedRow = record { at = c.at-at.result; shape = shape } in
     let block = c.rows.invariant.block in
@@ -39,20 +42,28 @@ rows-preserved g c =
 
 pub returns-in-Ok-None-clause-table : goal.returns-in-Ok-None-clause-table
 returns-in-Ok-None-clause-table g c =
-    let rows = g.V.UnitVersion.rows in
+    let rows = (rows_of g.V.UnitVersion.pair) in
     let section = c.args.sections.now.base.abbreviations in
     let p = c.rows.reader in
     let here = place_is p section c.rows.invariant.block ∙ ap (λ (a : ℕ). (let x : Place = record { block = section; at = a } in x)) (sym c.at-at.ensures.is) in
     let inside : c.at-at.result ≤ length section = omega (arith, c.at-at.ensures.inside, c.at-at.ensures.is, ap length c.rows.invariant.block) in
-    first_table rows section c.at-at.result p (Some []) here inside (subst (λ (o : Option Shape). FirstRow rows p (Ok o) c.row-row.new.reader) c.in-Ok-None.field-0-is c.in-Ok-None.ensures.item)
+    first_table rows section c.at-at.result p (Some []) here inside (subst (λ (o : Option Shape). FirstRow rows p (Ok o) c.read_row-row.new.reader) c.in-Ok-None.field-0-is c.in-Ok-None.ensures.item)
 
 pub returns-in-Err-At-clause-table : goal.returns-in-Err-At-clause-table
 returns-in-Err-At-clause-table g c =
-    let rows = g.V.UnitVersion.rows in
+    let rows = (rows_of g.V.UnitVersion.pair) in
     let section = c.args.sections.now.base.abbreviations in
     let p = c.rows.reader in
-    let q = c.row-row.new.reader in
+    let q = c.read_row-row.new.reader in
     let here = place_is p section c.rows.invariant.block ∙ ap (λ (a : ℕ). (let x : Place = record { block = section; at = a } in x)) (sym c.at-at.ensures.is) in
     let inside : c.at-at.result ≤ length section = omega (arith, c.at-at.ensures.inside, c.at-at.ensures.is, ap length c.rows.invariant.block) in
-    let is : c.row-row.result ≡ Err (faults.At c.in-Err-At.field-0-0) = c.in-Err-At.is ∙ ap (λ (e : ItemFault). Err e) (rw c.in-Err-At.is at c.in-Err-At.field-0-is) in
-    first_table rows section c.at-at.result p None here inside (subst (λ (r : Result (Option Shape) ItemFault). FirstRow rows p r q) is c.row-row.ensures.item)
+    let is : c.read_row-row.result ≡ Err (faults.At c.in-Err-At.field-0-0) = c.in-Err-At.is ∙ ap (λ (e : ItemFault). Err e) (rw c.in-Err-At.is at c.in-Err-At.field-0-is) in
+    first_table rows section c.at-at.result p None here inside (subst (λ (r : Result (Option Shape) ItemFault). FirstRow rows p r q) is c.read_row-row.ensures.item)
+
+pub read_row-row-requires : goal.read_row-row-requires
+read_row-row-requires g c κs =
+    let pair = g.V.UnitVersion.pair in
+    let known = c.args.pairs.now in
+    let block = c.rows.invariant.block ∙ sym c.requires.section in
+    let knows = subst (λ (b : List ℕ). Knows pair b known.lists.value (get nat_cmp known.known)) (sym c.requires.section) c.requires.knows in
+    ((refl, tt), (block, knows))

@@ -1,14 +1,14 @@
 use Rattle.std.proofs.Common.{◌<◌, sym, ap, length, arith}
-use Rattle.dwarf_info.specs.calls.Keeping.{numbered}
-use Rattle.dwarf_info.proofs.RowLaws.{none_past, table_read}
+use Rattle.dwarf_info.specs.calls.Keeping.{numbered, rows_of}
+use Rattle.dwarf_info.proofs.RowLaws.{none_of, none_past, table_read}
 use Rattle.dwarf_info.proofs.tables.select.Goals as goal
 
 pub returns-then-at-section-clause-table : goal.returns-then-at-section-clause-table
 returns-then-at-section-clause-table g c =
     let section = c.args.sections.now.base.abbreviations in
     let past : length section < c.args.at = omega (arith, c.if-at-section.true, ap length c.abbreviations-section.ensures) in
-    sym (none_past g.V.UnitVersion.version.shapes g.V.UnitVersion.rows c.rows_are_shapes.ensures.are section c.rows_are_shapes.ensures.none c.args.at past)
+    sym (none_past g.V.UnitVersion.version.shapes (rows_of g.V.UnitVersion.pair) c.rows_are_shapes.ensures section (none_of g.V.UnitVersion.pair) c.args.at past)
 
 pub returns-clause-table : goal.returns-clause-table
 returns-clause-table g c =
-    sym (table_read g.V.UnitVersion.version.shapes g.V.UnitVersion.rows c.rows_are_shapes.ensures.are c.args.sections.now.base.abbreviations c.args.at (numbered c.read_table.new.tables c.in_ok-table.table) c.in_ok-table.ensures.table)
+    sym (table_read g.V.UnitVersion.version.shapes (rows_of g.V.UnitVersion.pair) c.rows_are_shapes.ensures c.args.sections.now.base.abbreviations c.args.at (numbered c.read_table.new.tables c.in_ok-table.table) c.in_ok-table.ensures.table)

@@ -9,12 +9,12 @@ use Rattle.dwarf_info.proofs.tables.Tables.made.Goals as goal
 
 pub returns-in_err-table-clause-kept : goal.returns-in_err-table-clause-kept
 returns-in_err-table-clause-kept c =
-    let after : Tables = record { lists = c.push.new.self; read = c.args.self.now.read; size = 0 } in
+    let after : Tables = record { lists = c.push.new.self; read = c.args.self.now.read } in
     keeps_same c.args.self.now after c.in_err-table.ensures.err refl
 
 pub returns-clause-kept : goal.returns-clause-kept
 returns-clause-kept c =
-    let after : Tables = record { lists = c.push.new.self; read = c.args.self.now.read; size = 0 } in
+    let after : Tables = record { lists = c.push.new.self; read = c.args.self.now.read } in
     keeps_more c.args.self.now after (c.args.shape ∷ list_of c.args.self.now.lists c.in-Some.behind) c.in_ok-table.ensures.made refl
 
 pub returns-clause-there : goal.returns-clause-there
@@ -24,7 +24,7 @@ returns-clause-there c =
 
 pub returns-clause-table : goal.returns-clause-table
 returns-clause-table c =
-    let after : Tables = record { lists = c.push.new.self; read = c.args.self.now.read; size = 0 } in
+    let after : Tables = record { lists = c.push.new.self; read = c.args.self.now.read } in
     let made = c.args.shape ∷ list_of c.args.self.now.lists c.in-Some.behind in
     number_made c.args.self.now after made c.in_ok-table.ensures.made c.in_ok-table.table c.args.shape c.in-Some.behind c.in_ok-table.ensures.number refl
     ∙ ap (λ (o : Option ℕ). option_map (λ (rows : List Shape). c.args.shape ∷ rows) (numbered c.args.self.now o)) (sym c.in-Some.is)

@@ -1,0 +1,168 @@
+//! What the pairs of rows are, by where they begin. A pair is read once, however many rows have it.
+
+ghost use Rattle.std.specs.Prelude.{◌≡◌, ◌≤◌, ◌+◌, ℕ, List, length, IfOk, OnOk};
+ghost use Rattle.std.specs.Ordering.{nat_cmp};
+ghost use Rattle.std.specs.BTreeMap.{get};
+ghost use Rattle.dwarf_info.specs.Sections.{greatest_section};
+ghost use Rattle.dwarf_info.specs.calls.Pairs.{Pair, IsRight, Knows, KnowsAll, IsInFront};
+
+use crate::form::Slot;
+use crate::marks::marked_pairs;
+use crate::sections::Sections5;
+use crate::slots::SlotLists;
+use crate::version::UnitVersion;
+use causes::NoMemory;
+use std::alloc::Global;
+use std::collections::BTreeMap;
+use std::rc::Rc;
+use wasm_bytes::Reader;
+
+/// What pairs are up to their end mark.
+#[derive(Clone, Copy)]
+pub enum PairsAt {
+    /// The list of this number; the end mark ends at this offset.
+    Listed { list: u32, end: u32 },
+    /// Nothing that has a reading stands at this offset.
+    Fault(usize),
+}
+
+/// Pairs that are read one in front of the other.
+#[derive(Drop)]
+pub struct GrowingPairs {
+    pub lists: SlotLists,
+    /// What the pairs from an offset on are, where it is known.
+    pub known: BTreeMap<u64, PairsAt>,
+}
+
+/// Pairs that were read, whose lists rows and entries share.
+#[derive(Drop)]
+pub struct KnownPairs {
+    pub lists: Rc<SlotLists>,
+    /// What the pairs from an offset on are, where it is known.
+    pub known: BTreeMap<u64, PairsAt>,
+}
+
+impl GrowingPairs {
+    /// What the pairs from an offset on are, where it is known.
+    fn kept_at(&self, at: u64) -> Option<PairsAt>
+        ensures { result ≡ get nat_cmp self.now.known at }
+    {
+        self.known.get(&at).copied()
+    }
+
+    /// Keeps what the pairs from an offset on are.
+    fn keep(&mut self, at: u64, pairs: PairsAt) -> Result<(), NoMemory>
+        ensures { OnOk result ((pair : Pair) (section : List ℕ)
+            → Knows pair section self.old.lists (get nat_cmp self.old.known)
+            → IsRight pair section self.old.lists at pairs
+            → Knows pair section self.new.lists (get nat_cmp self.new.known)) }
+    {
+        self.known.insert(at, pairs)?;
+        Ok(())
+    }
+}
+
+/// Adds a pair in front of those from another offset on, where these are known.
+fn add_pair<'a, V: UnitVersion<'a>>(
+    section: &'a [u8],
+    growing: &mut GrowingPairs,
+    at: usize,
+    slot: Slot,
+    next: usize,
+) -> Result<(), NoMemory>
+    requires knows { Knows V.pair section.now growing.old.lists (get nat_cmp growing.old.known) }
+    requires front { IsInFront V.pair section.now at slot next }
+    ensures { OnOk result (Knows V.pair section.now growing.new.lists
+        (get nat_cmp growing.new.known)) }
+{
+    match growing.kept_at(next as u64) {
+        Some(PairsAt::Listed { list, end }) => {
+            let longer = growing.lists.push(slot, list)?;
+            let pairs = PairsAt::Listed { list: longer, end };
+            growing.keep(at as u64, pairs)
+        }
+        Some(PairsAt::Fault(fault)) => growing.keep(at as u64, PairsAt::Fault(fault)),
+        None => Ok(()),
+    }
+}
+
+/// Reads the pair at an offset, and keeps what it and those behind it are, where these are known.
+fn learn<'a, V: UnitVersion<'a>>(
+    section: &'a [u8],
+    growing: &mut GrowingPairs,
+    at: usize,
+) -> Result<(), NoMemory>
+    requires short { length section.now ≤ greatest_section }
+    requires inside { at ≤ length section.now }
+    requires knows { Knows V.pair section.now growing.old.lists (get nat_cmp growing.old.known) }
+    ensures { OnOk result (Knows V.pair section.now growing.new.lists
+        (get nat_cmp growing.new.known)) }
+{
+    let mut reader = Reader::starting_at(section, at);
+    let pair = V::read_pair(&mut reader);
+    let next = reader.at();
+    match pair {
+        Ok(Some(slot)) => add_pair::<V>(section, growing, at, slot, next),
+        Ok(None) => growing.keep(
+            at as u64,
+            PairsAt::Listed {
+                list: 0,
+                end: next as u32,
+            },
+        ),
+        Err(fault) => growing.keep(at as u64, PairsAt::Fault(fault.at)),
+    }
+}
+
+/// Reads the pairs at marked offsets, the last one first.
+fn learn_all<'a, V: UnitVersion<'a>>(
+    alloc: Global,
+    section: &'a [u8],
+    marks: &[bool],
+) -> Result<GrowingPairs, NoMemory>
+    requires short { length section.now ≤ greatest_section }
+    requires marks { length marks.now ≤ length section.now + 1 }
+    ensures { IfOk result (λ all. Knows V.pair section.now all.lists (get nat_cmp all.known)) }
+{
+    let mut growing = GrowingPairs {
+        lists: SlotLists::new(alloc),
+        known: BTreeMap::new(alloc),
+    };
+    let mut left = marks.len();
+    'marks: while left > 0 {
+        left -= 1;
+        if marks[left] {
+            learn::<V>(section, &mut growing, left)?;
+        }
+    }
+    Ok(growing)
+}
+
+impl KnownPairs {
+    /// The pairs of all rows that the units of these sections have, and maybe others.
+    pub fn of<'a, V: UnitVersion<'a>>(
+        alloc: Global,
+        sections: &Sections5<'a>,
+    ) -> Result<Self, NoMemory>
+        requires { length sections.now.base.abbreviations ≤ greatest_section }
+        ensures { IfOk result (λ all. KnowsAll V.pair sections.now all) }
+    {
+        let section = sections.abbreviations();
+        let marks = marked_pairs::<V>(alloc, sections)?;
+        let all = learn_all::<V>(alloc, section, marks.as_slice())?;
+        match Rc::new(alloc, all.lists) {
+            Ok(lists) => Ok(KnownPairs {
+                lists,
+                known: all.known,
+            }),
+            Err(_) => Err(NoMemory),
+        }
+    }
+
+    /// What the pairs from an offset on are, where it is known.
+    pub fn found_at(&self, at: u64) -> Option<PairsAt>
+        ensures { result ≡ get nat_cmp self.now.known at }
+    {
+        self.known.get(&at).copied()
+    }
+}
