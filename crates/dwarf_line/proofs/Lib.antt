@@ -7,3 +7,4 @@ pub mod Standing
 pub mod HalvingLaws
 pub mod StartLaws
 pub mod HeldLaws
+pub mod OrderLaws

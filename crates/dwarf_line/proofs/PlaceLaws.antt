@@ -82,7 +82,7 @@ nearest_is_computed a rows row n = ap (nearest a) n.parts ∙ nearest_of a row n
 abbrev Best : ℕ → Row → List Row → Type 0
 Best a best rows = Below a best rows ⊎ ((row : Row) × (best.address ≤ row.address) × IsNearest a rows row)
 
-in_front : (a : ℕ) (y row : Row) (ys : List Row) → (y.address ≤ a → y.address ≤ row.address) → IsNearest a ys row → IsNearest a (y ∷ ys) row
+pub in_front : (a : ℕ) (y row : Row) (ys : List Row) → (y.address ≤ a → y.address ≤ row.address) → IsNearest a ys row → IsNearest a (y ∷ ys) row
 in_front a y row ys h n = record { before = y ∷ n.before; after = n.after; parts = ap (λ (rows : List Row). y ∷ rows) n.parts; reached = n.reached; not_below = (h, n.not_below); above = n.above }
 
 alone : (a : ℕ) (y : Row) (ys : List Row) → y.address ≤ a → Below a y ys → IsNearest a (y ∷ ys) y

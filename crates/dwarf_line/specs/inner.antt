@@ -1,3 +1,4 @@
 pub mod Running
 pub mod Halving
 pub mod Starts
+pub mod Order

@@ -74,8 +74,9 @@ impl<'a> Matrix<'a> {
         ensures { OnOk result (self.new ≡ ended self.old) }
     {
         let rows = mem::replace(&mut self.rows, Items::new(alloc));
+        let rows = Rows::new(alloc, rows)?;
         self.sequences.push(Sequence {
-            rows: Rows::new(rows),
+            rows,
             end: self.registers.address,
         })?;
         self.registers = Row::first();
