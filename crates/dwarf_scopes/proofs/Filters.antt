@@ -1,7 +1,7 @@
 -- Tests one after the other, and what is found in the parts of a list.
-use Rattle.std.proofs.Common.{◌≡◌, ℕ, suc, Bool, true, false, List, [], ◌∷◌, ◌++◌, Option, Some, refl, sym, ap, ◌∙◌}
+use Rattle.std.proofs.Common.{◌≡◌, ℕ, suc, ◌+◌, ◌<◌, Bool, true, false, List, [], ◌∷◌, ◌++◌, length, drop, get_or, Option, Some, None, refl, sym, ap, ◌∙◌, add-one, drop-cons}
 use Rattle.std.specs.Option.{option_or}
-use Rattle.std.specs.Prelude.{filter, find, reverse, not, ◌&&◌, ◌==◌, if◌then◌else◌}
+use Rattle.std.specs.Prelude.{filter, find, flat_map, reverse, not, ◌&&◌, ◌==◌, if◌then◌else◌}
 use Rattle.std.proofs.lemmas.List.{reverse-append}
 use Rattle.std.proofs.lemmas.List.Elements.{filter-append}
 use Rattle.std.proofs.lemmas.List.Folds.{find-append}
@@ -9,6 +9,7 @@ use Rattle.dwarf_info.specs.declared.entry.UnitAnswer.{UnitAnswer}
 use Rattle.dwarf_info.specs.Sections.{SectionBytes5}
 use Rattle.dwarf_entries.specs.Standing.{Standing, standing, of_unit, inside}
 use Rattle.dwarf_entries.specs.Tags.{tag_subprogram}
+use Rattle.dwarf_entries.proofs.Found.{found_first, found_later}
 use Rattle.dwarf_scopes.specs.Ranges.{holds}
 use Rattle.dwarf_scopes.specs.Scopes.{declares, is_removed, variables_of, is_subprogram_at, subprogram_at}
 use Rattle.dwarf_scopes.specs.inner.Picks.{is_variable_of, is_kept, kept_of, kept}
@@ -40,6 +41,12 @@ parts false q r b e = ap (λ (t : Bool). t && r) e
 tested : (s : SectionBytes5) (a : ℕ) (x : Standing) (b : Bool) → is_kept x ≡ b → is_subprogram_at s a x ≡ b && holds s a x
 tested s a x b e = parts (x.entry.tag == tag_subprogram) (not (is_removed x)) (holds s a x) b e
 
+pub kept_held : (s : SectionBytes5) (a : ℕ) (x : Standing) → is_kept x ≡ true → is_subprogram_at s a x ≡ holds s a x
+kept_held s a x e = tested s a x true e
+
+pub left_out : (s : SectionBytes5) (a : ℕ) (x : Standing) → is_kept x ≡ false → is_subprogram_at s a x ≡ false
+left_out s a x e = tested s a x false e
+
 found_by : (s : SectionBytes5) (a : ℕ) (x : Standing) (xs : List Standing) (b : Bool) → is_kept x ≡ b → find (is_subprogram_at s a) xs ≡ find (holds s a) (filter is_kept xs)
     → find (is_subprogram_at s a) (x ∷ xs) ≡ find (holds s a) (filter is_kept (x ∷ xs))
 found_by s a x xs true e h =
@@ -64,3 +71,16 @@ found_in_units s a (u ∷ units) =
 pub found_kept : (s : SectionBytes5) (a : ℕ) (units : List UnitAnswer) → subprogram_at s units a ≡ find (holds s a) (kept units)
 unfolding subprogram_at
 found_kept s a units = found_in_units s a units
+
+-- ---- what is found in the part of one element after the other
+
+next_part : {A : Type 0} (xs : List A) (i : ℕ) (x : A) → i < length xs → x ≡ get_or xs i x → drop i xs ≡ x ∷ drop (i + 1) xs
+next_part xs i x lt is = drop-cons xs i x lt ∙ ap (λ y. y ∷ drop (suc i) xs) (sym is) ∙ ap (λ (n : ℕ). x ∷ drop n xs) (sym (add-one i))
+
+pub part_holds : {A B : Type 0} (test : B → Bool) (part : A → List B) (xs : List A) (i : ℕ) (x : A) (y : B) → i < length xs → x ≡ get_or xs i x → find test (part x) ≡ Some y
+    → find test (flat_map part (drop i xs)) ≡ Some y
+part_holds test part xs i x y lt is e = ap (λ rest. find test (flat_map part rest)) (next_part xs i x lt is) ∙ found_first test (part x) (flat_map part (drop (i + 1) xs)) y e
+
+pub part_lacks : {A B : Type 0} (test : B → Bool) (part : A → List B) (xs : List A) (i : ℕ) (x : A) → i < length xs → x ≡ get_or xs i x → find test (part x) ≡ None
+    → find test (flat_map part (drop i xs)) ≡ find test (flat_map part (drop (i + 1) xs))
+part_lacks test part xs i x lt is e = ap (λ rest. find test (flat_map part rest)) (next_part xs i x lt is) ∙ found_later test (part x) (flat_map part (drop (i + 1) xs)) e

@@ -3,7 +3,7 @@
 
 ghost use Rattle.std.specs.Prelude.{◌≡◌, ◌≤◌, ◌<◌, ◌^◌, ℕ, [], length, true, option_map, IfOk, IfSome};
 ghost use Rattle.dwarf_loc.specs.calls.Said.{said_before, chosen_of};
-ghost use Rattle.dwarf_scopes.specs.calls.Knowing.{Sectioned, Entered, AreSaid, IsSaid, place_of, said_in};
+ghost use Rattle.dwarf_scopes.specs.calls.Knowing.{Sectioned, Entered, AreSaid, IsSaid, way_of, place_of, said_in};
 ghost use Rattle.dwarf_scopes.specs.inner.Passing.{Leads};
 
 use crate::kinds::{ListKind, ListWay};
@@ -61,21 +61,29 @@ pub struct PassedEntry<T> {
     pub entry: ListEntry<T>,
 }
 
+/// By what the lists of a unit are read.
+pub fn way_of(unit: &Unit<'_>) -> ListWay
+    ensures { result ≡ way_of unit.now }
+{
+    ListWay {
+        version5: unit.version == 5,
+        addresses: address_base(unit),
+    }
+}
+
 /// The place of the list of a unit at an offset.
 fn place_of(unit: &Unit<'_>, at: usize) -> ListPlace
     ensures { result ≡ place_of unit.now at }
 {
     ListPlace {
-        way: ListWay {
-            version5: unit.version == 5,
-            addresses: address_base(unit),
-        },
+        way: way_of(unit),
         base: list_base(unit),
         at,
     }
 }
 
-fn is_same_way(way: ListWay, other: ListWay) -> bool
+/// Whether lists are read by the same.
+pub fn is_same_way(way: ListWay, other: ListWay) -> bool
     ensures { result ≡ true → way ≡ other }
 {
     way.version5 == other.version5 && way.addresses == other.addresses
@@ -88,7 +96,7 @@ fn is_same(place: ListPlace, other: ListPlace) -> bool
 }
 
 /// A number for each way.
-fn way_number(way: ListWay) -> u64
+pub fn way_number(way: ListWay) -> u64
     ensures { result < 2 ^ 33 }
 {
     if !way.version5 {
@@ -195,9 +203,27 @@ fn said_from<T: Copy + Drop>(
     }
 }
 
-/// Keeps what is said from an entry on, behind which that is said.
+/// Keeps what a list says where less than that is kept.
+fn keep_within<T: Copy + Drop>(
+    room: usize,
+    lists: &mut KnownLists<T>,
+    list: KnownList<T>,
+) -> Result<(), NoMemory>
+    ensures { (section : Sectioned) (item : Entered T) (address : ℕ)
+        → AreSaid section item address lists.old
+        → IsSaid section item address list.place list.said
+        → AreSaid section item address lists.new }
+{
+    if lists.known.len() >= room {
+        return Ok(());
+    }
+    keep(lists, list)
+}
+
+/// Keeps what is said from an entry on, behind which that is said, where less than that is kept.
 fn keep_entry<T: Copy + Drop>(
     address: u32,
+    room: usize,
     lists: &mut KnownLists<T>,
     passed: PassedEntry<T>,
     behind: Option<Said<T>>,
@@ -212,12 +238,13 @@ fn keep_entry<T: Copy + Drop>(
 {
     let place = passed.place;
     let said = said_from(address, place.base, passed.entry, behind);
-    keep(lists, KnownList { place, said })?;
+    keep_within(room, lists, KnownList { place, said })?;
     Ok(said)
 }
 
 /// Keeps what is said from each of these entries on, behind which a list says this, and hands out
-/// what is said from the first one on.
+/// what is said from the first one on. No more of them are kept than a section of entries of two
+/// bytes holds, so that one that is read from many bases takes no more memory.
 fn keep_entries<K: ListKind>(
     sections: &Sections5<'_>,
     address: u32,
@@ -235,10 +262,11 @@ fn keep_entries<K: ListKind>(
     ensures said { IfOk result
         (IsSaid (K.section sections.now) (K.item sections.now) address start) }
 {
+    let room = K::section(sections, start.way).len() / 2;
     let mut said = stop.said;
     keep(lists, stop)?;
     'entries: while let Some(last) = passed.pop() {
-        let from = keep_entry(address, lists, last, said)?;
+        let from = keep_entry(address, room, lists, last, said)?;
         said = from;
     }
     Ok(said)
@@ -260,6 +288,7 @@ fn said_from_place<K: ListKind>(
     let mut passed = Items::new(lists.alloc);
     let stop = read_entries::<K>(sections, address, place, lists, &mut passed)?;
     let said = keep_entries::<K>(sections, address, place, lists, &mut passed, stop)?;
+    keep(lists, KnownList { place, said })?;
     Ok(said)
 }
 

@@ -15,8 +15,10 @@ mod subprograms;
 mod variables;
 
 pub use asked::{KnownLocations, known_location_in, no_locations};
+pub use kinds::ListWay;
+pub use known::{is_same_way, way_number, way_of};
 pub use lists::{location_in, range_in};
 pub use scopes::{inlined_at, scopes_at};
 pub use steps::{Range, Steps};
-pub use subprograms::{Found, Subprograms, subprogram_at};
+pub use subprograms::{Found, Subprograms, found_at, subprogram_at};
 pub use variables::variables_at;

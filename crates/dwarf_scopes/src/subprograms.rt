@@ -1,19 +1,30 @@
-//! The subprograms of all units, gathered once where many addresses are looked up.
+//! The subprograms of all units: gathered once where many addresses are looked up, and gone through
+//! for a single one.
 
-ghost use Rattle.std.specs.Prelude.{◌≡◌, ◌++◌, OnOk, IfOk, flat_map};
-ghost use Rattle.dwarf_entries.specs.Standing.{Standing as Stands};
+ghost use Rattle.std.specs.Prelude.{◌≡◌, ◌++◌, OnOk, IfOk, find, flat_map};
+ghost use Rattle.dwarf_entries.specs.Standing.{Standing as Stands, standing_in, of_unit};
 ghost use Rattle.dwarf_scopes.specs.Scopes as scopes;
-ghost use Rattle.dwarf_scopes.specs.inner.Picks.{is_kept, kept_of, kept};
+ghost use Rattle.dwarf_scopes.specs.calls.Knowing.{AreRight};
+ghost use Rattle.dwarf_scopes.specs.inner.Picks.{is_kept, kept_of, kept, inlined_from};
 
+use crate::asked::{KnownRanges, no_ranges};
 use crate::holders::Holders;
+use crate::ranges::holds_by_known;
 use crate::scopes::{inlined_of, is_removed, scopes_in};
 use causes::NoMemory;
 use dwarf_entries::tags::SUBPROGRAM;
 use dwarf_entries::{Pick, Standing, push_picked};
-use dwarf_info::{Sections5, UnitAnswer};
+use dwarf_info::{Entry, Sections5, Unit, UnitAnswer};
 use pm_text::Items;
 use std::alloc::Global;
 use std::marker::Model;
+
+/// Whether an entry is a subprogram that is not removed.
+fn is_kept(standing: &Standing<'_, '_>) -> bool
+    ensures { result ≡ is_kept standing.now }
+{
+    standing.entry().tag == SUBPROGRAM && !is_removed(standing)
+}
 
 /// The subprograms that are not removed.
 #[derive(Drop)]
@@ -23,7 +34,7 @@ impl Pick for Kept {
     ghost picks = { λ p. is_kept };
 
     fn picks(&self, standing: &Standing<'_, '_>) -> bool {
-        standing.entry().tag == SUBPROGRAM && !is_removed(standing)
+        is_kept(standing)
     }
 }
 
@@ -58,6 +69,35 @@ pub struct Found<'r, 'a> {
     pub subprogram: Option<Standing<'r, 'a>>,
     /// The inlined subroutines that hold the address, the innermost first.
     pub inlined: Items<Standing<'r, 'a>>,
+}
+
+impl<'r, 'a> Found<'r, 'a> {
+    /// By the subprogram there.
+    fn of(
+        alloc: Global,
+        sections: &Sections5<'a>,
+        address: u32,
+        subprogram: Option<Standing<'r, 'a>>,
+    ) -> Result<Self, NoMemory>
+        ensures subprogram { IfOk result (λ x. x.subprogram ≡ subprogram.entry) }
+        ensures inlined { IfOk result (λ x. x.inlined
+            ≡ inlined_from sections.now address subprogram.entry) }
+    {
+        match subprogram {
+            Some(subprogram) => {
+                let scopes = scopes_in(alloc, sections, address, subprogram.copied())?;
+                let inlined = inlined_of(alloc, scopes)?;
+                Ok(Found {
+                    subprogram: Some(subprogram),
+                    inlined,
+                })
+            }
+            None => Ok(Found {
+                subprogram: None,
+                inlined: Items::new(alloc),
+            }),
+        }
+    }
 }
 
 /// The subprograms of units. Contracts see the units.
@@ -123,24 +163,79 @@ impl<'r, 'a> Subprograms<'r, 'a> {
         ensures inlined { IfOk result (λ x. x.inlined
             ≡ scopes.inlined_at sections.now self.now address) }
     {
-        match self.at(alloc, sections, address)? {
-            Some(subprogram) => {
-                let scopes = scopes_in(alloc, sections, address, subprogram.copied())?;
-                let inlined = inlined_of(alloc, scopes)?;
-                Ok(Found {
-                    subprogram: Some(subprogram),
-                    inlined,
-                })
-            }
-            None => Ok(Found {
-                subprogram: None,
-                inlined: Items::new(alloc),
-            }),
-        }
+        let subprogram = self.at(alloc, sections, address)?;
+        let found = Found::of(alloc, sections, address, subprogram)?;
+        Ok(found)
     }
 }
 
-/// The first subprogram of the section that holds an address and is not removed.
+/// Whether an entry is a subprogram that holds an address and is not removed, where lists were
+/// asked before.
+#[tactic(auto, using(crate::proofs::Filters::kept_held, crate::proofs::Filters::left_out))]
+fn is_subprogram_at(
+    sections: &Sections5<'_>,
+    address: u32,
+    standing: &Standing<'_, '_>,
+    lists: &mut KnownRanges,
+) -> Result<bool, NoMemory>
+    requires right { AreRight sections.now address lists.old }
+    ensures is { IfOk result (λ held. held
+        ≡ scopes.is_subprogram_at sections.now address standing.now) }
+    ensures right { AreRight sections.now address lists.new }
+{
+    if is_kept(standing) {
+        holds_by_known(sections, address, standing, lists)
+    } else {
+        Ok(false)
+    }
+}
+
+/// The first one among the entries of a unit.
+fn first_of<'r, 'a>(
+    sections: &Sections5<'a>,
+    address: u32,
+    unit: &'r Unit<'a>,
+    entries: &'r [Entry<'a>],
+    lists: &mut KnownRanges,
+) -> Result<Option<Standing<'r, 'a>>, NoMemory>
+    requires right { AreRight sections.now address lists.old }
+    ensures is { IfOk result (λ x. x ≡ find (scopes.is_subprogram_at sections.now address)
+        (standing_in unit.now entries.now)) }
+    ensures right { AreRight sections.now address lists.new }
+{
+    let mut left = entries;
+    'entries: while let [entry, behind @ ..] = left {
+        let standing = Standing::new(unit, entry, behind);
+        if is_subprogram_at(sections, address, &standing, lists)? {
+            return Ok(Some(standing));
+        }
+        left = behind;
+    }
+    Ok(None)
+}
+
+fn first_in<'r, 'a>(
+    sections: &Sections5<'a>,
+    address: u32,
+    answer: &'r UnitAnswer<'a>,
+    lists: &mut KnownRanges,
+) -> Result<Option<Standing<'r, 'a>>, NoMemory>
+    requires right { AreRight sections.now address lists.old }
+    ensures is { IfOk result (λ x. x ≡ find (scopes.is_subprogram_at sections.now address)
+        (of_unit answer.now)) }
+    ensures right { AreRight sections.now address lists.new }
+{
+    match answer {
+        UnitAnswer::Tree(unit) => {
+            first_of(sections, address, unit, unit.entries.as_slice(), lists)
+        }
+        UnitAnswer::Unreadable { section: _, at: _ } => Ok(None),
+    }
+}
+
+/// The first subprogram of the section that holds an address and is not removed. It goes through
+/// the entries up to this one, and gathers none.
+#[tactic(auto, unfolding(crate::specs::Scopes::subprogram_at))]
 pub fn subprogram_at<'r, 'a>(
     alloc: Global,
     sections: &Sections5<'a>,
@@ -149,6 +244,30 @@ pub fn subprogram_at<'r, 'a>(
 ) -> Result<Option<Standing<'r, 'a>>, NoMemory>
     ensures { IfOk result (λ x. x ≡ scopes.subprogram_at sections.now units.now address) }
 {
-    let subprograms = Subprograms::of(alloc, units)?;
-    subprograms.at(alloc, sections, address)
+    let mut lists = no_ranges(alloc);
+    for answer in units {
+        let found = first_in(sections, address, answer, &mut lists)?;
+        if let Some(subprogram) = found {
+            return Ok(Some(subprogram));
+        }
+    }
+    Ok(None)
+}
+
+/// What stands at an address. Where many are looked up, `Subprograms` finds it faster.
+#[tactic(auto, unfolding(crate::specs::Scopes::scopes_at, crate::specs::Scopes::inlined_at))]
+pub fn found_at<'r, 'a>(
+    alloc: Global,
+    sections: &Sections5<'a>,
+    units: &'r [UnitAnswer<'a>],
+    address: u32,
+) -> Result<Found<'r, 'a>, NoMemory>
+    ensures subprogram { IfOk result (λ x. x.subprogram
+        ≡ scopes.subprogram_at sections.now units.now address) }
+    ensures inlined { IfOk result (λ x. x.inlined
+        ≡ scopes.inlined_at sections.now units.now address) }
+{
+    let subprogram = subprogram_at(alloc, sections, units, address)?;
+    let found = Found::of(alloc, sections, address, subprogram)?;
+    Ok(found)
 }

@@ -18,9 +18,13 @@ use Rattle.dwarf_scopes.specs.declared.known.ListPlace.{ListPlace}
 use Rattle.dwarf_scopes.specs.declared.known.KnownLists.{KnownLists}
 use Rattle.dwarf_scopes.specs.calls.Kinds.{range_section, range_item, location_section, location_item}
 
+-- by what the lists of a unit are read
+abbrev pub way_of : UnitTree → ListWay
+way_of u = record { version5 = is_version5 u; addresses = valued as_offset addr_base (root_attributes u.entries) }
+
 -- the list of a unit at an offset
 abbrev pub place_of : UnitTree → ℕ → ListPlace
-place_of u at = record { way = record { version5 = is_version5 u; addresses = valued as_offset addr_base (root_attributes u.entries) }; base = list_base u; at = at }
+place_of u at = record { way = way_of u; base = list_base u; at = at }
 
 -- the section of lists, and how their entries are read
 abbrev pub Sectioned : Type 0

@@ -1,9 +1,10 @@
 -- Tests of entries, as the code makes them.
-use Rattle.std.specs.Prelude.{ℕ, suc, List, Bool, not, filter, flat_map, ◌&&◌, ◌||◌, ◌==◌}
+use Rattle.std.specs.Prelude.{ℕ, suc, List, Option, Bool, not, filter, flat_map, reverse, ◌&&◌, ◌||◌, ◌==◌}
 use Rattle.dwarf_info.specs.declared.entry.UnitAnswer.{UnitAnswer}
+use Rattle.dwarf_info.specs.Sections.{SectionBytes5}
 use Rattle.dwarf_entries.specs.Standing.{Standing, of_unit}
 use Rattle.dwarf_entries.specs.Tags.{tag_subprogram, tag_lexical_block, tag_inlined_subroutine}
-use Rattle.dwarf_scopes.specs.Scopes.{declares, is_removed}
+use Rattle.dwarf_scopes.specs.Scopes.{declares, is_removed, scopes_from}
 
 -- a formal parameter or a variable that is a child of an entry of that depth
 abbrev pub is_variable_of : ℕ → Standing → Bool
@@ -15,6 +16,10 @@ is_scope x = x.entry.tag == tag_lexical_block || x.entry.tag == tag_inlined_subr
 
 abbrev pub is_inlined : Standing → Bool
 is_inlined x = x.entry.tag == tag_inlined_subroutine
+
+-- the inlined subroutines in a subprogram that hold an address, the innermost first
+abbrev pub inlined_from : SectionBytes5 → ℕ → Option Standing → List Standing
+inlined_from s address x = reverse (filter is_inlined (scopes_from s address x))
 
 -- a subprogram that is not removed
 abbrev pub is_kept : Standing → Bool
