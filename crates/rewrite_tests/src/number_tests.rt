@@ -64,9 +64,10 @@ fn has_numbers(numbers: &IndexMap<'_>) -> bool {
         numbers.value_import(ValType::I64),
         numbers.frame_import(),
         numbers.flag(),
+        numbers.length(),
         numbers.wrapper(0),
     ];
-    found == [0, 1, 2, 3, 4, 0, 7]
+    found == [0, 1, 2, 3, 4, 0, 1, 7]
 }
 
 fn has_wrappers(numbers: &IndexMap<'_>) -> bool {

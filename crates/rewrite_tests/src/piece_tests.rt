@@ -21,17 +21,19 @@ use unwind_rewrite::{
     Site, TypeNumbers, branch_table, call_function, call_through_table, close_block, close_body,
     helper, open_block, open_body, trap, wrapper,
 };
-use wasm_syntax::{Basic, Binary, Compare, FuncType, Instr, Jump, ModuleParts, ValType, Value};
+use wasm_syntax::{
+    Basic, Binary, Compare, Convert, FuncType, Instr, Jump, ModuleParts, ValType, Value,
+};
 use wasm_validate::Validated;
 
 /// Function 0 is imported; function 1 calls through a table, and is exported. Both have type 0.
-/// There is a global.
-const MODULE: [u8; 66] = [
+/// There are a global and a memory.
+const MODULE: [u8; 71] = [
     0x00, 0x61, 0x73, 0x6d, 0x01, 0x00, 0x00, 0x00, 0x01, 0x07, 0x01, 0x60, 0x02, 0x7f, 0x7e, 0x01,
     0x7f, 0x02, 0x07, 0x01, 0x01, 0x61, 0x01, 0x62, 0x00, 0x00, 0x03, 0x02, 0x01, 0x00, 0x04, 0x04,
-    0x01, 0x70, 0x00, 0x02, 0x06, 0x06, 0x01, 0x7f, 0x01, 0x41, 0x00, 0x0b, 0x07, 0x05, 0x01, 0x01,
-    0x66, 0x00, 0x01, 0x0a, 0x0d, 0x01, 0x0b, 0x00, 0x20, 0x00, 0x20, 0x01, 0x20, 0x00, 0x11, 0x00,
-    0x00, 0x0b,
+    0x01, 0x70, 0x00, 0x02, 0x05, 0x03, 0x01, 0x00, 0x01, 0x06, 0x06, 0x01, 0x7f, 0x01, 0x41, 0x00,
+    0x0b, 0x07, 0x05, 0x01, 0x01, 0x66, 0x00, 0x01, 0x0a, 0x0d, 0x01, 0x0b, 0x00, 0x20, 0x00, 0x20,
+    0x01, 0x20, 0x00, 0x11, 0x00, 0x00, 0x0b,
 ];
 
 const EQUAL: Instr = Instr::Basic(Basic::Compare(ValType::I64, Compare::Eq));
@@ -114,8 +116,8 @@ const BRANCHES: [Instr; 24] = [
 ];
 
 // A call through the table with an operand left, of the function that the module defines, and of
-// the imported one.
-const CALLS: [Instr; 48] = [
+// the imported one. Behind the first and the last one the memory may be longer.
+const CALLS: [Instr; 58] = [
     Instr::Basic(Basic::LocalGet(8)),
     Instr::Jump(Jump::Call(6)),
     Instr::Basic(Basic::LocalSet(12)),
@@ -150,6 +152,11 @@ const CALLS: [Instr; 48] = [
     Instr::Basic(Basic::Drop),
     Instr::Basic(Basic::Drop),
     Instr::Basic(Basic::Drop),
+    Instr::Basic(Basic::MemorySize),
+    Instr::Basic(Basic::Convert(Convert::ExtendU)),
+    Instr::Basic(Basic::Const(Value::I64(16))),
+    Instr::Basic(Basic::Binary(ValType::I64, Binary::Shl)),
+    Instr::Basic(Basic::GlobalSet(2)),
     Instr::Basic(Basic::LocalGet(4)),
     Instr::Jump(Jump::Call(4)),
     Instr::Basic(Basic::LocalTee(2)),
@@ -162,13 +169,18 @@ const CALLS: [Instr; 48] = [
     Instr::Jump(Jump::Br(2)),
     Instr::End,
     Instr::Jump(Jump::Call(0)),
+    Instr::Basic(Basic::MemorySize),
+    Instr::Basic(Basic::Convert(Convert::ExtendU)),
+    Instr::Basic(Basic::Const(Value::I64(16))),
+    Instr::Basic(Basic::Binary(ValType::I64, Binary::Shl)),
+    Instr::Basic(Basic::GlobalSet(2)),
     Instr::Basic(Basic::LocalTee(2)),
     Instr::End,
 ];
 
 // The ends of a body without nodes, a wrapper, and a helper of a table with an empty entry and one
 // of the right type.
-const ENDS: [Instr; 55] = [
+const ENDS: [Instr; 60] = [
     Instr::Block(None),
     Instr::Block(Some(ValType::I32)),
     Instr::End,
@@ -189,6 +201,11 @@ const ENDS: [Instr; 55] = [
     Instr::Jump(Jump::Return),
     Instr::Basic(Basic::Const(Value::I32(0))),
     Instr::Basic(Basic::GlobalSet(1)),
+    Instr::Basic(Basic::MemorySize),
+    Instr::Basic(Basic::Convert(Convert::ExtendU)),
+    Instr::Basic(Basic::Const(Value::I64(16))),
+    Instr::Basic(Basic::Binary(ValType::I64, Binary::Shl)),
+    Instr::Basic(Basic::GlobalSet(2)),
     Instr::Basic(Basic::LocalGet(0)),
     Instr::Basic(Basic::LocalGet(1)),
     Instr::Jump(Jump::Call(4)),
@@ -281,7 +298,7 @@ fn moves(
 {
     context.load(writer, 2, places)?;
     context.store(writer, Some(ValType::I64), 2)?;
-    context.keep(writer, Some(OperandPlace::Spilled(ValType::I64)), 2)?;
+    context.keep(writer, false, Some(OperandPlace::Spilled(ValType::I64)), 2)?;
     context.reload(writer, Some(ValType::I32), 1)?;
     context.hand_top(writer, 1, places)?;
     let division = Basic::Binary(ValType::I64, Binary::DivS);
@@ -314,7 +331,7 @@ fn branches(
     requires heights { 4 ≤ context.now.slots }
 {
     open_block(context, writer, Some(ValType::I64), copies)?;
-    close_block(context, writer, Some(ValType::I64), 3)?;
+    close_block(context, writer, false, Some(ValType::I64), 3)?;
     branch_table(writer, &[0, 1], 1)?;
     trap(
         context,
@@ -323,6 +340,7 @@ fn branches(
             labels: 1,
             places,
             offset: 3,
+            passing: false,
         },
     )
 }
@@ -347,6 +365,7 @@ fn call_behind(
             labels: 1,
             places,
             offset,
+            passing: false,
         };
         call_function(context, writer, &site, function, ftype)
     } else {
@@ -372,6 +391,7 @@ fn calls(
         labels: 1,
         places,
         offset: 9,
+        passing: false,
     };
     call_through_table(context, writer, &site, numbers, ftype)?;
     call_behind(context, writer, places, 3, 12, 1, ftype)?;
