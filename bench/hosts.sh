@@ -145,6 +145,9 @@ if [ -n "$firefox" ] && command -v node > /dev/null; then
 else
   absent="$absent firefox"
 fi
+wat2wasm "$top/bench/grown.wat" -o original.wasm
+"$pm" instrument original.wasm rewritten.wasm > text
+for shell in $shells; do run_shell $shell "$top/bench/grown.mjs" original.wasm rewritten.wasm; done
 PM=$pm sh "$top/bench/hosts_flag.sh"
 PM=$pm sh "$top/bench/hosts_flag.sh" instrument
 echo "not installed:${absent:- none}"
