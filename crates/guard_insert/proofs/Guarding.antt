@@ -1,5 +1,6 @@
 -- How the pieces of a guard are put together.
-use Rattle.std.proofs.Common.{◌≡◌, ℕ, suc, ◌+◌, ◌-◌, List, [], ◌∷◌, length, slice_get, Some, None, refl, ◌∙◌, subst, arith}
+use Rattle.std.proofs.Common.{◌≡◌, ℕ, suc, ◌+◌, ◌-◌, List, [], ◌∷◌, length, slice_get, Some, None, Bool, true, false, ◌==◌, refl, ◌∙◌, subst, arith}
+use Rattle.std.proofs.lemmas.Bool.{eqb-true}
 use Rattle.wasm_syntax.specs.declared.value.ValType.{ValType}
 use Rattle.wasm_syntax.specs.declared.value.Value.{Value}
 use Rattle.wasm_syntax.specs.declared.instruction.Basic.{Basic}
@@ -7,7 +8,7 @@ use Rattle.wasm_syntax.specs.declared.instruction.Basic.TheVariants.{MemoryCopy}
 use Rattle.wasm_syntax.specs.Tree.{stop, choose}
 use Rattle.rewrite_bodies.specs.calls.Slots.{Place, Ctx}
 use Rattle.rewrite_bodies.specs.calls.Pieces.{const, fetch}
-use Rattle.rewrite_bodies.specs.calls.Guards.{guard, guard_zero, guard_copy, range_test, kind}
+use Rattle.rewrite_bodies.specs.calls.Guards.{guard, guard_zero, guard_copy, beyond_word, range_test, kind}
 use Rattle.rewrite_bodies.specs.calls.Rewrite.{unwind_kind, tested}
 use Rattle.rewrite_code.specs.calls.Writing.{Written, Emits, EmitsLast, Opens, Closes}
 use Rattle.rewrite_code.proofs.Pieces.{emits_last, emits_within}
@@ -30,6 +31,14 @@ next_zero C t p h {y} {a} {b} e q =
 pub kind_tested : (C : Ctx) (l : ℕ) (es : List Place) (o : ℕ) (i : Basic) {a b c d e : Written} → Opens (λ arm k. choose 0 None arm None stop 0 k) a b → Emits (kind C i es) b c → EmitsLast (unwind_kind C l es o) c d → Closes d e →
     Emits (tested C l es o (kind C i es)) a e
 kind_tested C l es o i op p u cl = emits_within op (emits_last p u) cl
+
+-- another number of bytes than four
+pub some_beyond : (n : ℕ) {a b : Written} → (n ≡ 4 → ⊥) → Emits (beyond_word false n) a b → Emits (beyond_word (n == 4) n) a b
+some_beyond n {a} {b} other p = by_test (n == 4) refl
+  where
+    by_test : (q : Bool) → (n == 4) ≡ q → Emits (beyond_word q n) a b
+    by_test true e = absurd (other (eqb-true n 4 e))
+    by_test false e = p
 
 -- a test of a range whose heights are these
 pub range_at : (C : Ctx) (p n : Place) {x y x' y' : ℕ} {a b : Written} → x ≡ x' → y ≡ y' → Emits (range_test C p x n y) a b → Emits (range_test C p x' n y') a b

@@ -1,7 +1,7 @@
 //! Guards of accesses to the memory.
 
-ghost use Rattle.std.specs.Prelude.{◌≡◌, ◌+◌, ◌≤◌, OnOk};
-ghost use Rattle.rewrite_bodies.specs.calls.Guards.{past_end, out_test};
+ghost use Rattle.std.specs.Prelude.{◌≡◌, ◌+◌, ◌==◌, ◌≤◌, OnOk};
+ghost use Rattle.rewrite_bodies.specs.calls.Guards.{past_end, beyond_word, out_test};
 ghost use Rattle.rewrite_bodies.specs.calls.Guards.{guard_memory, range_test, guard_copy};
 ghost use Rattle.rewrite_bodies.specs.calls.Guards.{guard_fill};
 ghost use Rattle.rewrite_code.specs.calls.Writing.{Emits};
@@ -10,6 +10,9 @@ ghost use Rattle.rewrite_code.specs.calls.Places.{place};
 use causes::NoMemory;
 use rewrite_code::{CodeWriter, FunctionContext, OperandPlace};
 use wasm_syntax::{Basic, Binary, Compare, Convert, ValType, Value};
+
+/// The bytes of most accesses, by which the global of the length is less than it.
+const WORD: u64 = 4;
 
 /// The height so many operands above another one.
 pub(crate) fn above(context: &FunctionContext<'_, '_>, height: usize, count: usize) -> usize
@@ -26,7 +29,20 @@ fn past_end(context: &FunctionContext<'_, '_>, writer: &mut CodeWriter) -> Resul
     ensures { OnOk result (Emits (past_end context.now.source) writer.old writer.new) }
 {
     context.get_length(writer)?;
+    writer.const_value(Value::I64(WORD))?;
+    writer.basic(Basic::Binary(ValType::I64, Binary::Add))?;
     writer.basic(Basic::Compare(ValType::I64, Compare::GtU))
+}
+
+/// What so many bytes are more than four is taken from the i64 on top.
+fn beyond_word(writer: &mut CodeWriter, count: u64) -> Result<(), NoMemory>
+    ensures { OnOk result (Emits (beyond_word (count == 4) count) writer.old writer.new) }
+{
+    if count == WORD {
+        return Ok(());
+    }
+    writer.const_value(Value::I64(count.wrapping_sub(WORD)))?;
+    writer.basic(Basic::Binary(ValType::I64, Binary::Sub))
 }
 
 /// Whether so many bytes from the address on top pass the end: whether it is greater than the
@@ -40,8 +56,7 @@ fn out_test(
 {
     writer.basic(Basic::Convert(Convert::ExtendU))?;
     context.get_length(writer)?;
-    writer.const_value(Value::I64(count))?;
-    writer.basic(Basic::Binary(ValType::I64, Binary::Sub))?;
+    beyond_word(writer, count)?;
     writer.basic(Basic::Compare(ValType::I64, Compare::GtS))
 }
 

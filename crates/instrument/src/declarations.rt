@@ -117,7 +117,8 @@ fn memory_min(parts: &ModuleParts) -> u32
     }
 }
 
-/// The global of the memory's length in bytes, which is that at the start.
+/// The global that tells the length of the memory, which is that at the start: four bytes less, as a
+/// number of 64 bits.
 fn new_length(alloc: Global, parts: &ModuleParts) -> Result<GlobalPart, NoMemory>
     ensures { IfOk result (λ global. global ≡ measure parts.now) }
 {
@@ -125,7 +126,7 @@ fn new_length(alloc: Global, parts: &ModuleParts) -> Result<GlobalPart, NoMemory
     Ok(GlobalPart {
         vtype: ValType::I64,
         mutable: true,
-        init: value_code(alloc, Value::I64(65_536 * pages))?,
+        init: value_code(alloc, Value::I64((65_536 * pages).wrapping_sub(4)))?,
     })
 }
 

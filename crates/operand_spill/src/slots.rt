@@ -127,28 +127,28 @@ impl SlotPlan {
         requires { height < self.now.slots }
         ensures { result ≡ number self.now (Slot vtype height) }
     {
-        self.locals.len() as u32 + slot(vtype, height)
+        self.locals.len() as u32 + slot(self.slots, vtype, height)
     }
 
     /// The local through which results of a type go.
     pub fn result(&self, vtype: ValType) -> u32
         ensures { result ≡ number self.now (Result vtype) }
     {
-        self.locals.len() as u32 + slot(vtype, self.slots)
+        self.locals.len() as u32 + slot(self.slots, vtype, self.slots)
     }
 
     /// The local for the kind of a trap.
     pub fn kind(&self) -> u32
         ensures { result ≡ number self.now Kind }
     {
-        self.locals.len() as u32 + 2 * self.slots + 2
+        self.locals.len() as u32 + self.slots + 1
     }
 
     /// The local for the code offset of a trap.
     pub fn offset(&self) -> u32
         ensures { result ≡ number self.now Offset }
     {
-        self.locals.len() as u32 + 2 * self.slots + 3
+        self.locals.len() as u32 + self.slots + 2
     }
 
     /// The value of an operand before a live instruction of the planned function, by the number of

@@ -33,8 +33,8 @@ use Rattle.rewrite_bodies.specs.calls.Agreement.{Holds, now, joined, Wit, UnderW
 use Rattle.rewrite_bodies.specs.calls.Steps.{Gets, To, Shell, st}
 use Rattle.rewrite_bodies.proofs.Run.{stored_other, kind_no_slot, slice_get-put_other, added_get, added_set, slice_get-put_same, types-slice_set, added_kind, more_parts, one_step, seq, weaken, push_to, still, fetch_to, load_to, less_holds, store_to, reload_to, drops_to, cut_front, added_offset}
 use Rattle.rewrite_bodies.proofs.Passing.{loosened, as_open, kept_all, open_marked, stored_unless, types_unless, arrived, kept_unless}
-use Rattle.rewrite_bodies.proofs.Parts.{put_keeps, cut_all, fits_put, settle, step_plain}
-use Rattle.rewrite_bodies.specs.calls.Guards.{renew, helper, entry_label, says, first_table}
+use Rattle.rewrite_bodies.proofs.Parts.{put_keeps, cut_all, fits_kind, fits_offset, settle, step_plain}
+use Rattle.rewrite_bodies.specs.calls.Guards.{less_word, renew, helper, entry_label, says, first_table}
 use Rattle.rewrite_bodies.specs.calls.Telling.{tell_labels, tell_locals, tell_frame, tell_ops}
 use Rattle.std.proofs.lemmas.List.{map-append}
 use Rattle.rewrite_bodies.specs.calls.Standing.{Linked, Speaks, HelperLinked, Stands}
@@ -60,11 +60,11 @@ types-locals args ps ls e = types_append args (zeros ls) ∙ ap₂ (λ a b. a ++
 pub new_locals : (args : List Value) (new old more : List ValType) → new ≡ old ++ more → args ++ zeros new ≡ (args ++ zeros old) ++ zeros more
 new_locals args new old more e = ap (λ z. args ++ zeros z) e ∙ ap (λ z. args ++ z) (map-append zero_of old more) ∙ sym (append_assoc args (zeros old) (zeros more))
 
-pub holds_len : (l ex : List Value) (js es : List Place) (ops : List Value) → Holds l ex js ops es → length ops ≡ length es
-holds_len l ex js [] [] h = refl
-holds_len l ex js (e ∷ es) [] h = absurd h
-holds_len l ex js [] (v ∷ ops) h = absurd h
-holds_len l ex js (e ∷ es) (v ∷ ops) h = ap suc (holds_len l ex js es ops h.1)
+pub holds_len : (C : Ctx) (l ex : List Value) (js es : List Place) (ops : List Value) → Holds C l ex js ops es → length ops ≡ length es
+holds_len C l ex js [] [] h = refl
+holds_len C l ex js (e ∷ es) [] h = absurd h
+holds_len C l ex js [] (v ∷ ops) h = absurd h
+holds_len C l ex js (e ∷ es) (v ∷ ops) h = ap suc (holds_len C l ex js es ops h.1)
 
 -- what is taken, and all of them
 cut_count : (m : ℕ) (ops vs below : List Value) → cut m ops ≡ parts vs below → length vs ≡ m
@@ -131,7 +131,7 @@ module _ (M : Engine) (gl : List ValType) (b : Value) (call : HostCall) (w : Wor
   written_rel : (reply : Reply) (left : List Reply) (o : Option (Option Memory)) → fits_type call.result reply.value ≡ true → after_writes w.memory reply.writes ≡ o → AnswerRel M gl call.result b (if_written call reply left w o) (if_written call reply left (flagged M w b) o)
   written_rel reply left None ft e = refl
   written_rel reply left (Some k) ft e = (
-    ap (λ (n : ℕ). replied (record { globals = w.globals ++ b ∷ values.I64 n ∷ []; memory = k; table = (flagged M w b).table; replies = left; served = record { call = call; reply = reply } ∷ w.served }) reply.value) (sym (writes_stay w.memory reply.writes k e)),
+    ap (λ (n : ℕ). replied (record { globals = w.globals ++ b ∷ values.I64 (less_word n) ∷ []; memory = k; table = (flagged M w b).table; replies = left; served = record { call = call; reply = reply } ∷ w.served }) reply.value) (sym (writes_stay w.memory reply.writes k e)),
     record { globals = wf.globals; memory = writes_keep w.memory reply.writes k e wf.memory; least = least_longer M.program.module_.memories w.memory k (writes_longer w.memory reply.writes k e) wf.least; table = wf.table },
     fits_result call.result reply.value ft,
   )
@@ -207,21 +207,21 @@ module _ (M M' : Engine) (E : ℕ) (gl : List ValType) (W : Wrap) (S : Stands M 
         let ex1 = slice_set ex (kind_at C) v in
         let low = room_height C es N h.2 in
         let v1 : To M' 1 1 (st (armed X k ops) (l ++ ex) (v ∷ []) (unwind_kind C ls es o) g0 co) (st (armed X k ops) (l ++ ex1) [] (unwind C ls es o) g0 co) = added_set M' C l size ex (kind_at C) I32 v at refl in
-        let h1 = fits_put C l ex None (LL ∷ Ls) (e ∷ ss) (kind_at C) v (omega (arith, low)) h in
-        let h2 = fits_put C l ex1 None (LL ∷ Ls) (e ∷ ss) (offset_at C) (values.I32 o) (omega (arith, low)) h1 in
+        let h1 = fits_kind C l ex None (LL ∷ Ls) (e ∷ ss) v (omega (arith, low)) h in
+        let h2 = fits_offset C l ex1 None (LL ∷ Ls) (e ∷ ss) (values.I32 o) (omega (arith, low)) h1 in
         let X1 = armed X k ops in
         let hands : Hands M' C sp M l X1.kind X1.below X1.frames g 0 co (ls + length C.landings) (hand C es (to_exit C ls)) (LL ∷ Ls) (slice_set ex1 (offset_at C) (values.I32 o)) = weaken M' (hand_to M' C sp l size (slice_set ex1 (offset_at C) (values.I32 o)) None (LL ∷ Ls) (e ∷ ss) (to_exit C ls) h2) (omega arith) (omega (arith, low)) in
         trap_out p t j k ops ex1 (hand C es (to_exit C ls)) (types-slice_set ex (kind_at C) I32 v at refl ∙ f.room) (slice_get-put_same ex (kind_at C) I32 v at) hands (weaken M' (seq M' pre v1) (omega arith) (omega arith))
 
     -- or the frame is left for a landing, the topmost operands along with the branch
-    pub trap_landed : passes C N ≡ false → (t : Config) (j : ℕ) (k : Nodes) (x : Landing) (n : ℕ) (vs others : List Value) → number_of x C.landings ≡ Some n → x.kind ≡ suc j → top x.carried ops ≡ Some vs → ((ex2 : List Value) → FitsLabels C l ex2 None (LL ∷ Ls) (e ∷ ss) → AllIn l ex2 others x.places) → length x.places ≤ C.slots → tell_ops (vs ++ others) co ≡ tell_labels (LL ∷ Ls) co → To M' 1 30 t (st X (l ++ slice_set ex (offset_at C) (values.I32 o)) (values.I32 1 ∷ ops) (jump 0 (BrIf (ls + n)) k) g0 co) → Comes M M' E gl W t (traps (suc j) (config (FF ∷ Fs) g co))
+    pub trap_landed : passes C N ≡ false → (t : Config) (j : ℕ) (k : Nodes) (x : Landing) (n : ℕ) (vs others : List Value) → number_of x C.landings ≡ Some n → x.kind ≡ suc j → top x.carried ops ≡ Some vs → ((ex2 : List Value) → FitsLabels C l ex2 None (LL ∷ Ls) (e ∷ ss) → AllIn C l ex2 others x.places) → length x.places ≤ C.slots → tell_ops (vs ++ others) co ≡ tell_labels (LL ∷ Ls) co → To M' 1 30 t (st X (l ++ slice_set ex (offset_at C) (values.I32 o)) (values.I32 1 ∷ ops) (jump 0 (BrIf (ls + n)) k) g0 co) → Comes M M' E gl W t (traps (suc j) (config (FF ∷ Fs) g co))
     trap_landed p t j k x n vs others is kind top_is places few told_ pre =
         let low = room_height C es N f.labels.2 in
         let at : slice_get (types ex) (offset_at C) ≡ Some I32 = rw f.room (added_offset C.slots) in
         let exm = slice_set ex (offset_at C) (values.I32 o) in
         let roomm : types exm ≡ added C.slots = types-slice_set ex (offset_at C) I32 (values.I32 o) at refl ∙ f.room in
-        let hm = fits_put C l ex None (LL ∷ Ls) (e ∷ ss) (offset_at C) (values.I32 o) (omega (arith, low)) (all_fit p) in
-        let hk = fits_put C l exm None (LL ∷ Ls) (e ∷ ss) (kind_at C) (values.I32 x.kind) (omega (arith, low)) hm in
+        let hm = fits_offset C l ex None (LL ∷ Ls) (e ∷ ss) (values.I32 o) (omega (arith, low)) (all_fit p) in
+        let hk = fits_kind C l exm None (LL ∷ Ls) (e ∷ ss) (values.I32 x.kind) (omega (arith, low)) hm in
         let out = landed_out M' C sp M l f.size exm LL Ls e ss x n X.frames g 0 co o 0 ops vs others k None hm roomm (slice_get-put_same ex (offset_at C) I32 (values.I32 o) at) gt is top_is (places (slice_set exm (kind_at C) (values.I32 x.kind)) hk) few in
         let all_ : Gets M' 1 E t (deliver M' (zero_vs C.result) X.frames (flagged M g (values.I32 1)) (collector_calls.Frame x.kind C.index o (length C.locals) ∷ tell_locals l (tell_ops (vs ++ others) co))) = weaken M' (seq M' pre out) (omega arith) (omega (arith, f.small)) in
         let all : Gets M' 1 E t (deliver M' (zero_vs C.result) X.frames (flagged M g (values.I32 1)) (collector_calls.Frame (suc j) C.index o (length C.locals) ∷ tell_locals l (tell_labels (LL ∷ Ls) co))) = rw (kind, told_) at all_ in
@@ -271,7 +271,7 @@ module _ (M M' : Engine) (E : ℕ) (gl : List ValType) (W : Wrap) (S : Stands M 
 
       -- the added locals when it has given its results
       abbrev after_of : Option UnderWay → List Value → List Value
-      after_of u vs' = stored_unless (pass_of u) r1 (λ t. slot t (length es1)) vs' ex1
+      after_of u vs' = stored_unless (pass_of u) r1 (λ t. slot C.slots t (length es1)) vs' ex1
 
       -- and behind the test of the flag, where there is one
       abbrev marks : Bool → Option UnderWay → List Value → List Value
@@ -305,7 +305,7 @@ module _ (M M' : Engine) (E : ℕ) (gl : List ValType) (W : Wrap) (S : Stands M 
           let pl = grown_fits C r1 es1 ex1 room1 hb.1 in
           let hs = settled others vs' room1 x hb in
           let g1 = flagged M g' (values.I32 0) in
-          let ts = types_unless (pass_of others) r1 (λ t. slot t (length es1)) vs' ex1 pl x ∙ same in
+          let ts = types_unless (pass_of others) r1 (λ t. slot C.slots t (length es1)) vs' ex1 pl x ∙ same in
           let ex2 = marks dq others (after_of others vs') in
           let tm = types_marks dq others (after_of others vs') (ts ∙ f.room) ∙ ts in
           let hm = fits_marks dq others (after_of others vs') (label (vs' ++ below) rest en kd) Ls (grown r1 e') ss (room_height C (grown r1 e' ++ joined ss) rest hs.2) hs in
@@ -330,7 +330,7 @@ module _ (M M' : Engine) (E : ℕ) (gl : List ValType) (W : Wrap) (S : Stands M 
 
           through : (u : UnderWay) → NoKind C ex1 (Some u) → To M' 0 (C.slots + 18) (st (Y_of (Some u)) (l ++ ex1) (vs' ++ []) (store C r1 es1 stop) (flagged M g' (values.I32 0)) co) (st X (l ++ (after_of (Some u) vs')) (vs' ++ below) goes_on (flagged M g' (values.I32 0)) co)
           through u nk =
-              let kd0 : slice_get (after_of (Some u) vs') (kind_at C) ≡ Some (values.I32 0) = stored_other r1 (λ t. slot t (length es1)) vs' ex1 (kind_at C) (λ t. kind_no_slot C (length es1) t low) ∙ nk.0 in
+              let kd0 : slice_get (after_of (Some u) vs') (kind_at C) ≡ Some (values.I32 0) = stored_other r1 (λ t. slot C.slots t (length es1)) vs' ex1 (kind_at C) (λ t. kind_no_slot C (length es1) t low) ∙ nk.0 in
               let back = reload C r1 es1 goes_on in
               let kn = renew C.source back in
               let kr = drops (length u.taken) kn in
@@ -342,7 +342,7 @@ module _ (M M' : Engine) (E : ℕ) (gl : List ValType) (W : Wrap) (S : Stands M 
               let s2 : To M' 1 1 (st (armed X K all_) (l ++ (after_of (Some u) vs')) [] stop g1 co) (st X (l ++ (after_of (Some u) vs')) all_ K g1 co) = one_step M' _ _ refl in
               let s3 = both_to M M' E gl W C X l (after_of (Some u) vs') all_ g' co ls es1 o u.others kr 0 0 0 size kd0 fl' refl in
               let s4 : To M' (length u.taken) (length u.taken) (st X (l ++ (after_of (Some u) vs')) all_ kr g1 co) (st X (l ++ (after_of (Some u) vs')) below kn g1 co) = drops_to M' (length u.taken) all_ u.taken below kn (cut_front u.taken below) in
-              let s4b : To M' 0 5 (st X (l ++ (after_of (Some u) vs')) below kn g1 co) (st X (l ++ (after_of (Some u) vs')) below back g1 co) = renew_to M' M C.source X (l ++ (after_of (Some u) vs')) below back g' co (values.I32 0) fl' C.source.memories least' wf'.memory in
+              let s4b : To M' 0 7 (st X (l ++ (after_of (Some u) vs')) below kn g1 co) (st X (l ++ (after_of (Some u) vs')) below back g1 co) = renew_to M' M C.source X (l ++ (after_of (Some u) vs')) below back g' co (values.I32 0) fl' C.source.memories least' wf'.memory in
               let s5 : To M' 0 1 (st X (l ++ (after_of (Some u) vs')) below back g1 co) (st X (l ++ (after_of (Some u) vs')) (vs' ++ below) goes_on g1 co) = reload_to M' C l size ex1 r1 es1 vs' below goes_on pl x in
               let alone : vs' ++ [] ≡ vs' = append-nil vs' in
               rw alone (weaken M' (seq M' s1 (seq M' s2 (seq M' s3 (seq M' (if_zero_to M') (seq M' s4 (seq M' s4b s5)))))) (omega arith) (omega (arith, nk.1)))
@@ -351,10 +351,10 @@ module _ (M M' : Engine) (E : ℕ) (gl : List ValType) (W : Wrap) (S : Stands M 
           behind None nk true =
               let kept = keep (passes C rest) C (option_map Spilled r1) es1 goes_on in
               let g1 = flagged M g' (values.I32 0) in
-              let s1 : To M' 0 5 (st X (l ++ ex1) (vs' ++ below) (renew C.source kept) g1 co) (st X (l ++ ex1) (vs' ++ below) kept g1 co) = renew_to M' M C.source X (l ++ ex1) (vs' ++ below) kept g' co (values.I32 0) fl' C.source.memories least' wf'.memory in
+              let s1 : To M' 0 7 (st X (l ++ ex1) (vs' ++ below) (renew C.source kept) g1 co) (st X (l ++ ex1) (vs' ++ below) kept g1 co) = renew_to M' M C.source X (l ++ ex1) (vs' ++ below) kept g' co (values.I32 0) fl' C.source.memories least' wf'.memory in
               weaken M' (seq M' s1 (kept_here goes_on)) (omega arith) (omega arith)
           behind None nk false =
-              weaken M' (seq M' (kept_here (test_flag C ls es1 o goes_on)) (flag_down M M' E gl W C X l (after_of None vs') (vs' ++ below) g' co ls es1 o goes_on size (types_unless (passes C rest) r1 (λ t. slot t (length es1)) vs' ex1 (grown_fits C r1 es1 ex1 (same ∙ f.room) hb.1) x ∙ same ∙ f.room) fl')) (omega arith) (omega arith)
+              weaken M' (seq M' (kept_here (test_flag C ls es1 o goes_on)) (flag_down M M' E gl W C X l (after_of None vs') (vs' ++ below) g' co ls es1 o goes_on size (types_unless (passes C rest) r1 (λ t. slot C.slots t (length es1)) vs' ex1 (grown_fits C r1 es1 ex1 (same ∙ f.room) hb.1) x ∙ same ∙ f.room) fl')) (omega arith) (omega arith)
           behind (Some u) nk false = through u nk
           behind (Some u) nk true = through u nk
 
@@ -409,7 +409,7 @@ module _ (M M' : Engine) (E : ℕ) (gl : List ValType) (W : Wrap) (S : Stands M 
         let s1 : To M' 1 n t mid = rw (depth, locals) at (pre k) in
         let s3 : To M' 0 25 mid (config (t_frame now (entered g' b tree type args) (wit C' ex' ([] ∷ [])) ∷ stands_under Z ex1 (lies_under ex1 below e' rest (defined b tree type) vs dq others others) code) g0 co) = into_body M' (mapped M.program.module_ g') (result_of type) ((args ++ zeros (declared_locals b.groups)) ++ ex') (stands_under Z ex1 (lies_under ex1 below e' rest (defined b tree type) vs dq others others) code) g0 co C' tree.nodes few_ in
         let callee : FitsFrame M E gl None (entered g' b tree type args) (wit C' ex' ([] ∷ [])) =
-        record { size = types-locals args type.params (declared_locals b.groups) ty; room = zero_types (added k.slots); idx = refl; result = refl; funcs = refl; base = refl; helpers = refl; flag = ap global_types (sym f.funcs) ∙ f.flag; small = k.small; exposed = ap (λ q. exposed_in M.program.module_.memories (nodes_of q)) (sym at); narrow = k.narrow; labels = (loosened (passes C' tree.nodes) (args ++ zeros (declared_locals b.groups)) ex' [] [] [] tt, tt, room_landed C0 os (landings_from C1 [] tree.nodes []) [] tree.nodes k.room, refl, tt); no_kind = tt } in (
+        record { size = types-locals args type.params (declared_locals b.groups) ty; room = zero_types (added k.slots); idx = refl; result = refl; funcs = refl; base = refl; helpers = refl; flag = ap global_types (sym f.funcs) ∙ f.flag; small = k.small; exposed = ap (λ q. exposed_in M.program.module_.memories (nodes_of q)) (sym at); narrow = k.narrow; labels = (loosened C' (passes C' tree.nodes) (args ++ zeros (declared_locals b.groups)) ex' [] [] [] tt, tt, room_landed C0 os (landings_from C1 [] tree.nodes []) [] tree.nodes k.room, refl, tt); no_kind = tt } in (
           wit C' ex' ([] ∷ []) ∷ wit_under C ex1 (e' ∷ ss) others ∷ ws,
           (wf, (callee, (refit_under l (label below rest en kd ∷ Ls) ex1 (e' ∷ ss) others (Some (result_of type)) o f refl same hb nk, fs))),
           subst (λ z. To M' 1 E t (config (t_frame now (entered g' b tree type args) (wit C' ex' ([] ∷ [])) ∷ z) g0 co)) (frames_under ex1 below e' rest b tree type vs dq others df) (weaken M' (seq M' s1 s3) (omega arith) (omega (arith, le, f.small))),
@@ -465,7 +465,7 @@ module _ (M M' : Engine) (E : ℕ) (gl : List ValType) (W : Wrap) (S : Stands M 
         let h = f.labels in
         let m = length (function_type fn).params in
         let r1 = result_of (function_type fn) in
-        let lh = less_holds l ex m (joined ss) e ops vs below h.0 c in
+        let lh = less_holds C l ex m (joined ss) e ops vs below h.0 c in
         let e' = lh.0 in
         let dq = nat_lt g' (import_count M.program.module_) in
         let k = after_direct dq C lsd r1 (e' ++ joined ss) at (passes C rest) (λ es'. rewrite C lsd es' rest) in
@@ -651,8 +651,8 @@ module _ (M M' : Engine) (E : ℕ) (gl : List ValType) (W : Wrap) (S : Stands M 
         let ex3 = slice_set exk (offset_at C) (values.I32 at) in
         let ne : kind_at C ≢ offset_at C = omega arith in
         let kd3 : slice_get ex3 (kind_at C) ≡ Some v = slice_get-put_other exk (kind_at C) (offset_at C) (values.I32 at) ne ∙ kq in
-        let h1 = fits_put C l ex None (LI ∷ Ls) ((e1 ∷ e) ∷ ss) (kind_at C) v (omega (arith, low)) h in
-        let h3 = fits_put C l exk None (LI ∷ Ls) ((e1 ∷ e) ∷ ss) (offset_at C) (values.I32 at) (omega (arith, low)) h1 in
+        let h1 = fits_kind C l ex None (LI ∷ Ls) ((e1 ∷ e) ∷ ss) v (omega (arith, low)) h in
+        let h3 = fits_offset C l exk None (LI ∷ Ls) ((e1 ∷ e) ∷ ss) (values.I32 at) (omega (arith, low)) h1 in
         let sp_ = subst (Speaks M') (sym f.funcs) S.speaks in
         let hands : Hands M' C sp_ M l X1.kind X1.below X1.frames g 0 co (lsi + length C.landings) H (LI ∷ Ls) ex3 = weaken M' (hand_left_to M' C sp_ l size_i ex3 None (LI ∷ Ls) ((e1 ∷ e) ∷ ss) lsi (suc (length type.params)) j h3 kd3) (omega arith) (omega (arith, low)) in
         let s0 = judged type q lbl (suc j) has tq le lk in
@@ -675,8 +675,8 @@ module _ (M M' : Engine) (E : ℕ) (gl : List ValType) (W : Wrap) (S : Stands M 
         let c' : cut m ops ≡ parts vs below = ap (λ z. cut (length z.params) ops) (sym same) ∙ c in
         let same1 : types exi ≡ types ex = types-slice_set ex (kind_at C) I32 (values.I32 0) (rw f.room (added_kind C.slots)) refl in
         let low : length (e1 ∷ esi) ≤ C.slots = room_height C (e1 ∷ esi) NI h.2 in
-        let h1 = fits_put C l ex None (LI ∷ Ls) ((e1 ∷ e) ∷ ss) (kind_at C) (values.I32 0) (omega (arith, low)) h in
-        let lh = less_holds l exi m (joined ss) e ops vs below h1.0.1 c' in
+        let h1 = fits_kind C l ex None (LI ∷ Ls) ((e1 ∷ e) ∷ ss) (values.I32 0) (omega (arith, low)) h in
+        let lh = less_holds C l exi m (joined ss) e ops vs below h1.0.1 c' in
         let e' = lh.0 in
         let others = hand_top C (suc m) (e1 ∷ esi) stop in
         let k = store C r1 (e' ++ joined ss) stop in
@@ -703,7 +703,7 @@ module _ (M M' : Engine) (E : ℕ) (gl : List ValType) (W : Wrap) (S : Stands M 
         let s2 : To M' (suc m) (suc m) (st YI (l ++ exi) [] (load C (suc m) (e1 ∷ esi) moved) gi co) T0 = load_to M' C l size_i {X = YI} exi (suc m) (joined ss) (e1 ∷ e) (values.I32 n ∷ ops) [] (values.I32 n ∷ vs) below moved h1.0 cu in
         let low1 : doubles C.source ≡ true → n + table_min C.source.tables < 65537 = subst (λ z. doubles z ≡ true → n + table_min z.tables < 65537) (sym f.funcs) (entry_low M.program.module_ g.table n (Some g') wf.table tq) in
         let s2b : To M' 0 2 T0 T = past_to M' C YI (l ++ exi) n (vs ++ []) code gi co (doubles C.source) low1 in
-        let few : m ≤ C.slots = omega (arith, cut_len m ops vs below c', holds_len l ex (joined ss) e ops h.0.1, length-append e (joined ss), low) in
+        let few : m ≤ C.slots = omega (arith, cut_len m ops vs below c', holds_len C l ex (joined ss) e ops h.0.1, length-append e (joined ss), low) in
         let tbl : slice_get gi.table n1 ≡ Some (Some (mapped M.program.module_ g')) = ap (λ z. slice_get gi.table (past (doubles z) z n)) f.funcs ∙ entry_past M.program.module_ g.table n (Some g') wf.table tq in
         let ft : type_at M'.program.module_ (mapped M.program.module_ g') ≡ Some type = S.function_types_ g' type (S.type_is g' fn at_ ∙ ap Some same) in
         let ty' = S.entry_types t type ty in

@@ -20,7 +20,7 @@ use Rattle.rewrite_bodies.specs.Numbering.{mapped, flag_of}
 use Rattle.rewrite_bodies.specs.calls.Guards.{renew}
 use Rattle.rewrite_bodies.specs.calls.Known.{HasLeast}
 use Rattle.rewrite_bodies.specs.calls.Pieces.{get, set, const, if_any, keep, store, reload, drops}
-use Rattle.rewrite_bodies.specs.calls.Agreement.{Pending, Arrives, awaits, now, pending, joined, t_kind, t_labels, Wit, UnderWay, FitsIn, Room, KindFits, FitsLabels, FitsOpen, WorldFits, FitsFrame, FitsFrames, Wrap, t_frames, flagged, byte_count}
+use Rattle.rewrite_bodies.specs.calls.Agreement.{Pending, Arrives, awaits, now, pending, joined, t_kind, t_labels, Wit, UnderWay, FitsIn, Room, KindFits, FitsLabels, FitsOpen, WorldFits, FitsFrame, FitsFrames, Wrap, t_frames, flagged, told_length}
 use Rattle.rewrite_bodies.specs.calls.Steps.{Gets, To, Shell, st}
 use Rattle.rewrite_bodies.proofs.Run.{stored, stored_other, kind_no_slot, if_same, types-stored, one_step, seq, weaken, added_get, store_to, reload_to, drops_to, cut_front}
 use Rattle.rewrite_bodies.proofs.Parts.{settle, step_plain}
@@ -62,7 +62,7 @@ exactly_exact r ops vs e = top_exact r ops vs (exactly_top r ops vs e)
 module _ (M M' : Engine) (E : ℕ) (gl : List ValType) (W : Wrap) where
   -- the flag is read
   pub flag_to : {X : Shell} {tl s : List Value} {k : Nodes} {co : List CollectorCall} (C : Ctx) (g : World) (b : ℕ) → flag_of C.source ≡ length g.globals → To M' 1 1 (st X tl s (get_flag C k) (flagged M g (values.I32 b)) co) (st X tl (values.I32 b ∷ s) k (flagged M g (values.I32 b)) co)
-  flag_to {tl = tl} {s = s} C g b fl = step_plain M' (GlobalGet (flag_of C.source)) [] s tl (flagged M g (values.I32 b)) (values.I32 b ∷ []) (values.I32 b ∷ s) refl (rw (get_first g.globals (flag_of C.source) (values.I32 b) (values.I64 (byte_count g.memory) ∷ []) fl) refl) refl
+  flag_to {tl = tl} {s = s} C g b fl = step_plain M' (GlobalGet (flag_of C.source)) [] s tl (flagged M g (values.I32 b)) (values.I32 b ∷ []) (values.I32 b ∷ s) refl (rw (get_first g.globals (flag_of C.source) (values.I32 b) (values.I64 (told_length g.memory) ∷ []) fl) refl) refl
 
   -- the added locals behind the test of a call that left these operands
   abbrev pub behind_test : Ctx → List Place → ℕ → List Value → List Value
@@ -84,7 +84,7 @@ module _ (M M' : Engine) (E : ℕ) (gl : List ValType) (W : Wrap) where
       let k1 = basic 0 (Binary I32 Or) k2 in
       let k0 = basic 0 (GlobalGet (flag_of C.source)) k1 in
       let s1 : To M' 1 1 (st X (l ++ ex) s (get C (kind_at C) k0) gy co) (st X (l ++ ex) (values.I32 x ∷ s) k0 gy co) = added_get M' C l size ex (kind_at C) (values.I32 x) kd in
-      let s2 : To M' 1 1 (st X (l ++ ex) (values.I32 x ∷ s) k0 gy co) (st X (l ++ ex) (values.I32 y ∷ values.I32 x ∷ s) k1 gy co) = step_plain M' (GlobalGet (flag_of C.source)) [] (values.I32 x ∷ s) (l ++ ex) gy (values.I32 y ∷ []) (values.I32 y ∷ values.I32 x ∷ s) refl (rw (get_first g.globals (flag_of C.source) (values.I32 y) (values.I64 (byte_count g.memory) ∷ []) fl) refl) refl in
+      let s2 : To M' 1 1 (st X (l ++ ex) (values.I32 x ∷ s) k0 gy co) (st X (l ++ ex) (values.I32 y ∷ values.I32 x ∷ s) k1 gy co) = step_plain M' (GlobalGet (flag_of C.source)) [] (values.I32 x ∷ s) (l ++ ex) gy (values.I32 y ∷ []) (values.I32 y ∷ values.I32 x ∷ s) refl (rw (get_first g.globals (flag_of C.source) (values.I32 y) (values.I64 (told_length g.memory) ∷ []) fl) refl) refl in
       let s3 : To M' 1 1 (st X (l ++ ex) (values.I32 y ∷ values.I32 x ∷ s) k1 gy co) (st X (l ++ ex) (values.I32 z ∷ s) k2 gy co) = step_plain M' (Binary I32 Or) (values.I32 y ∷ values.I32 x ∷ []) s (l ++ ex) gy (values.I32 z ∷ []) (values.I32 z ∷ s) refl (rw q refl) refl in
       seq M' s1 (seq M' s2 s3)
 
@@ -98,7 +98,7 @@ module _ (M M' : Engine) (E : ℕ) (gl : List ValType) (W : Wrap) where
       let d = suc (length Ls) in
       let X = shell W C r' L.kind Ls ss Fs ws in
       let pass = passes C L.nodes in
-      let ex' = stored_unless pass r (λ t. slot t (length es)) vs ex in
+      let ex' = stored_unless pass r (λ t. slot C.slots t (length es)) vs ex in
       let size = len_of l C.locals f.size in
       let pl = grown_fits C r es ex f.room h.1 in
       let hs = arrived pass C l ex r L Ls e ss vs refl f.room x h in
@@ -106,7 +106,7 @@ module _ (M M' : Engine) (E : ℕ) (gl : List ValType) (W : Wrap) where
       let k1 = test_flag C d es cl k in
       let go1 : To M' 1 10 t (st X (l ++ ex) (vs ++ L.operands) (keep pass C (option_map Spilled r) es k1) (flagged M g (values.I32 0)) co) = rw grown-append at go in
       let s1 = kept_unless M' C l size pass ex r es vs L.operands k1 pl x in
-      let te = types_unless pass r (λ t. slot t (length es)) vs ex pl x in
+      let te = types_unless pass r (λ t. slot C.slots t (length es)) vs ex pl x in
       let ex2 = behind_test C es cl ex' in
       let low = room_height C (grown r e ++ joined ss) L.nodes hs.2 in
       let hs2 = open_marked (number_of (landing_behind (part_of C.locals cl) es) C.landings) C cl l ex' (label (vs ++ L.operands) L.nodes L.end L.kind) Ls (grown r e) ss low hs in
@@ -128,12 +128,12 @@ module _ (M M' : Engine) (E : ℕ) (gl : List ValType) (W : Wrap) where
       let ops = others.taken ++ L.operands in
       let X = shell W C r' L.kind Ls ss Fs ws in
       let d = suc (length Ls) in
-      let ex' = stored r (λ t. slot t (length es)) vs ex in
+      let ex' = stored r (λ t. slot C.slots t (length es)) vs ex in
       let size = len_of l C.locals f.size in
       let pl = grown_fits C r es ex f.room h.1 in
       let hs = as_open C l ex' (label (vs ++ L.operands) L.nodes L.end L.kind) Ls (grown r e) ss (settle C l ex r L Ls e ss vs f.room x h) in
       let low : length es ≤ C.slots = omega (arith, grown_longer r es, room_height C (grown r es) L.nodes h.2) in
-      let kd : slice_get ex' (kind_at C) ≡ Some (values.I32 0) = stored_other r (λ t. slot t (length es)) vs ex (kind_at C) (λ t. kind_no_slot C (length es) t low) ∙ f.no_kind.0 in
+      let kd : slice_get ex' (kind_at C) ≡ Some (values.I32 0) = stored_other r (λ t. slot C.slots t (length es)) vs ex (kind_at C) (λ t. kind_no_slot C (length es) t low) ∙ f.no_kind.0 in
       let k = rewrite C d (grown r e ++ joined ss) L.nodes in
       let kr = renew C.source (reload C r es k) in
       let kd_ = drops (length others.taken) kr in
@@ -145,10 +145,10 @@ module _ (M M' : Engine) (E : ℕ) (gl : List ValType) (W : Wrap) where
       let fl = flag_len C g (gl_.globals ∙ sym f.flag) in
       let s3 = both_to C X l ex' ops g co d es cl others.others kd_ 0 0 0 size kd fl refl in
       let s4 : To M' (length others.taken) (length others.taken) (st X (l ++ ex') ops kd_ g0 co) (st X (l ++ ex') L.operands kr g0 co) = drops_to M' (length others.taken) ops others.taken L.operands kr (cut_front others.taken L.operands) in
-      let s4b : To M' 0 5 (st X (l ++ ex') L.operands kr g0 co) (st X (l ++ ex') L.operands (reload C r es k) g0 co) = renew_to M' M C.source X (l ++ ex') L.operands (reload C r es k) g co (values.I32 0) fl C.source.memories (subst (λ z. HasLeast z.memories g.memory) (sym f.funcs) gl_.least) gl_.memory in
+      let s4b : To M' 0 7 (st X (l ++ ex') L.operands kr g0 co) (st X (l ++ ex') L.operands (reload C r es k) g0 co) = renew_to M' M C.source X (l ++ ex') L.operands (reload C r es k) g co (values.I32 0) fl C.source.memories (subst (λ z. HasLeast z.memories g.memory) (sym f.funcs) gl_.least) gl_.memory in
       let s5 : To M' 0 1 (st X (l ++ ex') L.operands (reload C r es k) g0 co) (st X (l ++ ex') (vs ++ L.operands) k g0 co) = reload_to M' C l size ex r es vs L.operands k pl x in (
         wit C ex' (grown r e ∷ ss) ∷ ws,
-        (gl_, (refit l (label (vs ++ L.operands) L.nodes L.end L.kind ∷ Ls) ex' (grown r e ∷ ss) None cl f refl (types-stored r (λ t. slot t (length es)) vs ex pl x) hs, fs)),
+        (gl_, (refit l (label (vs ++ L.operands) L.nodes L.end L.kind ∷ Ls) ex' (grown r e ∷ ss) None cl f refl (types-stored r (λ t. slot C.slots t (length es)) vs ex pl x) hs, fs)),
         weaken M' (seq M' go1 (seq M' s1 (seq M' s2 (seq M' s3 (seq M' (if_zero_to M') (seq M' s4 (seq M' s4b s5))))))) (omega arith) (omega (arith, f.small, f.no_kind.1)),
       )
 
@@ -179,12 +179,12 @@ module _ (M M' : Engine) (E : ℕ) (gl : List ValType) (W : Wrap) where
         let pl = grown_fits C a es ex f.room h.1 in
         let pass = passes C L.nodes in
         let hs = arrived pass C l ex a L Ls e ss vs refl f.room x (fits_any C l ex a (L ∷ Ls) (e ∷ ss) h) in
-        let ex2 = stored_unless pass a (λ t. slot t (length es)) vs ex in
+        let ex2 = stored_unless pass a (λ t. slot C.slots t (length es)) vs ex in
         let k = rewrite C (suc (length Ls)) (grown a e ++ joined ss) L.nodes in
         let go1 : To M' 1 2 t (st X (l ++ ex) (vs ++ L.operands) (keep pass C (option_map Spilled a) es k) (flagged M g (values.I32 0)) co) = rw grown-append at go in
         let s1 = kept_unless M' C l size pass ex a es vs L.operands k pl x in (
           wit C ex2 (grown a e ∷ ss) ∷ ws,
-          (gl_, (refit l (label (vs ++ L.operands) L.nodes L.end L.kind ∷ Ls) ex2 (grown a e ∷ ss) None cl f refl (types_unless pass a (λ t. slot t (length es)) vs ex pl x) hs, fs)),
+          (gl_, (refit l (label (vs ++ L.operands) L.nodes L.end L.kind ∷ Ls) ex2 (grown a e ∷ ss) None cl f refl (types_unless pass a (λ t. slot C.slots t (length es)) vs ex pl x) hs, fs)),
           weaken M' (seq M' go1 s1) (omega arith) (omega (arith, f.small)),
         )
 
@@ -300,7 +300,7 @@ module _ (M M' : Engine) (E : ℕ) (gl : List ValType) (W : Wrap) where
   br_if_node C ex [] ss ws i cl r l (values.I32 v ∷ ops) en kd Ls Fs g co o n rest f fs gl_ = absurd f.labels.0
   br_if_node C ex (e1 ∷ e) ss ws i cl r l (values.I32 zero ∷ ops) en kd Ls Fs g co o n rest f fs gl_ =
       let h = f.labels in
-      (wit C ex (e ∷ ss) ∷ ws, (gl_, (refit l (label ops rest en kd ∷ Ls) ex (e ∷ ss) None cl f refl refl (loosened (passes C rest) l ex (joined ss) e ops h.0.1, tt, h.2.1, h.3, h.4), fs)), weaken M' (one_step M' _ _ refl) (omega arith) (omega (arith, f.small)))
+      (wit C ex (e ∷ ss) ∷ ws, (gl_, (refit l (label ops rest en kd ∷ Ls) ex (e ∷ ss) None cl f refl refl (loosened C (passes C rest) l ex (joined ss) e ops h.0.1, tt, h.2.1, h.3, h.4), fs)), weaken M' (one_step M' _ _ refl) (omega arith) (omega (arith, f.small)))
   br_if_node C ex (e1 ∷ e) ss ws i cl r l (values.I32 (suc v) ∷ ops) en kd Ls Fs g co o n rest f fs gl_ =
       let nodes = jump o (BrIf n) rest in
       let all = values.I32 (suc v) ∷ ops in

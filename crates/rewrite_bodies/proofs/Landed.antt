@@ -18,7 +18,7 @@ use Rattle.rewrite_bodies.specs.calls.Rewrite.{landing_code, exit_code}
 use Rattle.rewrite_bodies.specs.calls.Agreement.{awaits, code_at, held, pending, joined, t_kind, l_labels, t_labels, FitsLabels}
 use Rattle.rewrite_bodies.specs.calls.Steps.{To, Shell, st}
 use Rattle.rewrite_bodies.proofs.Run.{slice_get-put_other, types-slice_set, added_offset, one_step, seq, push_to, added_set}
-use Rattle.rewrite_bodies.proofs.Parts.{fits_put}
+use Rattle.rewrite_bodies.proofs.Parts.{fits_offset}
 
 -- ---- which landing
 
@@ -149,7 +149,7 @@ types_marked (Some n) C o ex room = types-slice_set ex (offset_at C) I32 (values
 
 pub fits_marked : (q : Option ℕ) (C : Ctx) (o : ℕ) (l ex : List Value) (a : Option ValType) (Ls : List Label) (ss : List (List Place)) → length (joined ss) ≤ C.slots → FitsLabels C l ex a Ls ss → FitsLabels C l (marked q C o ex) a Ls ss
 fits_marked None C o l ex a Ls ss low h = h
-fits_marked (Some n) C o l ex a Ls ss low h = fits_put C l ex a Ls ss (offset_at C) (values.I32 o) (omega (arith, low)) h
+fits_marked (Some n) C o l ex a Ls ss low h = fits_offset C l ex a Ls ss (values.I32 o) (omega (arith, low)) h
 
 pub kind_marked : (q : Option ℕ) (C : Ctx) (o : ℕ) (ex : List Value) → slice_get (marked q C o ex) (kind_at C) ≡ slice_get ex (kind_at C)
 kind_marked None C o ex = refl

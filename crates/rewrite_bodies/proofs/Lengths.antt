@@ -1,7 +1,7 @@
 -- The bytes of rewritten code.
 use Rattle.rewrite_bodies.proofs.Charges.{charge, charge_behind}
 use Rattle.rewrite_bodies.specs.calls.Landings.{number_of, landing_behind, part_of}
-use Rattle.std.proofs.Common.{◌≡◌, ℕ, zero, suc, ◌+◌, ◌*◌, ◌/◌, ◌%◌, ◌^◌, ◌<◌, ◌≤◌, nat_lt, List, [], ◌∷◌, ◌++◌, length, Option, Some, None, option_map, Bool, true, false, refl, arith, take, if◌then◌else◌}
+use Rattle.std.proofs.Common.{◌≡◌, ℕ, zero, suc, ◌+◌, ◌*◌, ◌/◌, ◌%◌, ◌^◌, ◌<◌, ◌≤◌, ◌==◌, nat_lt, List, [], ◌∷◌, ◌++◌, length, Option, Some, None, option_map, Bool, true, false, refl, arith, take, if◌then◌else◌}
 use Rattle.std.specs.Int.{w32, w64, cast_signed}
 use Rattle.std.proofs.lemmas.Bool.{ltb-false}
 use Rattle.std.proofs.Math.Nat.{div-lt_iff_lt-mul}
@@ -23,7 +23,7 @@ use Rattle.wasm_syntax.specs.Tree.{Br, Nodes, stop, basic, jump, BrIf}
 use Rattle.rewrite_bodies.specs.Numbering.{import_count, flag_of}
 use Rattle.rewrite_bodies.specs.calls.Slots.{Place, Spilled, Known, Copied, place_type, Ctx, slot, kind_at, offset_at, less, pushed, grown, without}
 use Rattle.rewrite_bodies.specs.calls.Pieces.{get, set, const, i32, call, if_any, fetch, load, keep_slot, keep, store, reload, spill_one, spill, drops}
-use Rattle.rewrite_bodies.specs.calls.Guards.{least, minus_one, guard_zero, guard_signed, past_end, out_test, guard_memory, range_test, guard_copy, guard_fill, guard, kind_signed, kind, length_of, get_length, set_length, renewed}
+use Rattle.rewrite_bodies.specs.calls.Guards.{less_word, least, minus_one, guard_zero, guard_signed, past_end, beyond_word, out_test, guard_memory, range_test, guard_copy, guard_fill, guard, kind_signed, kind, length_of, get_length, set_length, renewed}
 use Rattle.rewrite_bodies.specs.calls.Rewrite.{hand_value, hand, hand_top, to_exit, unwind, unwind_kind, hand_left, test_flag, test_both, checked, get_flag, lengthened}
 use Rattle.rewrite_bodies.specs.calls.Agreement.{FitsIn}
 use Rattle.rewrite_bodies.specs.calls.Length.{code_length, FewNumbers}
@@ -69,23 +69,30 @@ len_global_get x k = let s = ten_bytes x in omega (arith, s)
 pub len_global_set : (x : ℕ) (k : Nodes) → code_length (basic 0 (GlobalSet x) k) ≤ 11 + code_length k
 len_global_set x k = let s = ten_bytes x in omega (arith, s)
 
--- the global of the length is set, behind what may have changed that
+-- the global of the length is set, behind what may have changed it
 len_sixteen : (k : Nodes) → code_length (const (values.I64 16) k) ≡ 2 + code_length k
 unfolding signed_bytes signed_groups
 len_sixteen k = refl
 
-pub len_set_length : (src : Module) (k : Nodes) → code_length (set_length src k) ≤ 17 + code_length k
+len_four : (k : Nodes) → code_length (const (values.I64 4) k) ≡ 2 + code_length k
+unfolding signed_bytes signed_groups
+len_four k = refl
+
+pub len_set_length : (src : Module) (k : Nodes) → code_length (set_length src k) ≤ 20 + code_length k
 len_set_length src k =
     let k1 = basic 0 (GlobalSet (length_of src)) k in
+    let k2 = basic 0 (Binary I64 Sub) k1 in
+    let k3 = const (values.I64 4) k2 in
     let a = len_global_set (length_of src) k in
-    let b = len_sixteen (basic 0 (Binary I64 Shl) k1) in
-    omega (arith, a, b)
+    let b = len_sixteen (basic 0 (Binary I64 Shl) k3) in
+    let c = len_four k2 in
+    omega (arith, a, b, c)
 
-pub len_renewed : (ls : List Limits) (src : Module) (k : Nodes) → code_length (renewed ls src k) ≤ 17 + code_length k
+pub len_renewed : (ls : List Limits) (src : Module) (k : Nodes) → code_length (renewed ls src k) ≤ 20 + code_length k
 len_renewed [] src k = omega arith
 len_renewed (l ∷ ls) src k = len_set_length src k
 
-pub len_lengthened : (q : Bool) (C : Ctx) (k : Nodes) → code_length (lengthened q C k) ≤ 17 + code_length k
+pub len_lengthened : (q : Bool) (C : Ctx) (k : Nodes) → code_length (lengthened q C k) ≤ 20 + code_length k
 len_lengthened false C k = omega arith
 len_lengthened true C k = len_set_length C.source k
 
@@ -182,7 +189,7 @@ module _ (C : Ctx) (few : FewNumbers C) where
   pub len_set : (x : ℕ) (k : Nodes) → x < 2 * C.slots + 4 → code_length (set C x k) ≤ 5 + code_length k
   len_set x k lt = let s = local_four x lt in omega (arith, s)
 
-  slot_low : (t : ValType) (h : ℕ) → h ≤ C.slots → slot t h < 2 * C.slots + 4
+  slot_low : (t : ValType) (h : ℕ) → h ≤ C.slots → slot C.slots t h < 2 * C.slots + 4
   slot_low I32 h le = omega (arith, le)
   slot_low I64 h le = omega (arith, le)
 
@@ -190,7 +197,7 @@ module _ (C : Ctx) (few : FewNumbers C) where
   len_own x k = let s = ten_bytes x in omega (arith, s)
 
   pub len_fetch : (e : Place) (h : ℕ) (k : Nodes) → h ≤ C.slots → code_length (fetch C e h k) ≤ cost e + code_length k
-  len_fetch (Spilled t) h k le = len_get (slot t h) k (slot_low t h le)
+  len_fetch (Spilled t) h k le = len_get (slot C.slots t h) k (slot_low t h le)
   len_fetch (Known v) h k le = len_const v k
   len_fetch (Copied t x) h k le = len_own x k
 
@@ -228,14 +235,14 @@ module _ (C : Ctx) (few : FewNumbers C) where
 
   pub len_store : (r : Option ValType) (es : List Place) (k : Nodes) → FitsIn C r es → code_length (store C r es k) ≤ 5 + code_length k
   len_store None es k fit = omega arith
-  len_store (Some t) es k fit = len_set (slot t (length es)) k (slot_low t (length es) (omega (arith, fit)))
+  len_store (Some t) es k fit = len_set (slot C.slots t (length es)) k (slot_low t (length es) (omega (arith, fit)))
 
   len_tee : (x : ℕ) (k : Nodes) → x < 2 * C.slots + 4 → code_length (basic 0 (LocalTee (length C.locals + x)) k) ≤ 5 + code_length k
   len_tee x k lt = let s = local_four x lt in omega (arith, s)
 
   len_keep_slot : (q : Bool) (t : ValType) (es : List Place) (k : Nodes) → FitsIn C (Some t) es → code_length (keep_slot q C t es k) ≤ 5 + code_length k
   len_keep_slot true t es k fit = omega arith
-  len_keep_slot false t es k fit = len_tee (slot t (length es)) k (slot_low t (length es) (omega (arith, fit)))
+  len_keep_slot false t es k fit = len_tee (slot C.slots t (length es)) k (slot_low t (length es) (omega (arith, fit)))
 
   pub len_keep : (q : Bool) (p : Option Place) (es : List Place) (k : Nodes) → FitsIn C (option_map place_type p) es → code_length (keep q C p es k) ≤ 5 + code_length k
   len_keep q None es k fit = omega arith
@@ -249,14 +256,14 @@ module _ (C : Ctx) (few : FewNumbers C) where
 
   pub len_reload : (r : Option ValType) (es : List Place) (k : Nodes) → FitsIn C r es → code_length (reload C r es k) ≤ 5 + code_length k
   len_reload None es k fit = omega arith
-  len_reload (Some t) es k fit = len_get (slot t (length es)) k (slot_low t (length es) (omega (arith, fit)))
+  len_reload (Some t) es k fit = len_get (slot C.slots t (length es)) k (slot_low t (length es) (omega (arith, fit)))
 
   pub len_drops : (n : ℕ) (k : Nodes) → code_length (drops n k) ≤ n + code_length k
   len_drops zero k = omega arith
   len_drops (suc n) k = let a = len_drops n k in omega (arith, a)
 
-  len_spill_if : (q : Bool) (t : ValType) (x h : ℕ) (k : Nodes) → h ≤ C.slots → code_length (if q then basic 0 (LocalGet x) (set C (slot t h) k) else k) ≤ 16 + code_length k
-  len_spill_if true t x h k le = let a = len_own x (set C (slot t h) k) in let b = len_set (slot t h) k (slot_low t h le) in omega (arith, a, b)
+  len_spill_if : (q : Bool) (t : ValType) (x h : ℕ) (k : Nodes) → h ≤ C.slots → code_length (if q then basic 0 (LocalGet x) (set C (slot C.slots t h) k) else k) ≤ 16 + code_length k
+  len_spill_if true t x h k le = let a = len_own x (set C (slot C.slots t h) k) in let b = len_set (slot C.slots t h) k (slot_low t h le) in omega (arith, a, b)
   len_spill_if false t x h k le = omega arith
 
   len_spill_one : (these : ℕ → Bool) (e : Place) (h : ℕ) (k : Nodes) → h ≤ C.slots → code_length (spill_one C these e h k) ≤ 16 + code_length k
@@ -353,14 +360,21 @@ module _ (C : Ctx) (few : FewNumbers C) where
   len_get_length k = len_global_get (length_of C.source) k
 
   len_past_end : (k : Nodes) → code_length (past_end C.source k) ≤ 16 + code_length k
-  len_past_end k = let x = len_get_length (basic 0 (Compare I64 GtU) k) in omega (arith, x)
+  len_past_end k =
+      let k1 = basic 0 (Binary I64 Add) (basic 0 (Compare I64 GtU) k) in
+      let x = len_get_length (const (values.I64 4) k1) in
+      omega (arith, x, len_four k1)
+
+  len_beyond : (q : Bool) (n : ℕ) (k : Nodes) → code_length (beyond_word q n k) ≤ 12 + code_length k
+  len_beyond true n k = omega arith
+  len_beyond false n k = let x = len_const (values.I64 (less_word n)) (basic 0 (Binary I64 Sub) k) in omega (arith, x)
 
   len_guard_memory : (a : Place) (h n : ℕ) (k : Nodes) → h ≤ C.slots → code_length (guard_memory C a h n k) ≤ 40 + code_length k
   len_guard_memory a h n k le =
-      let k1 = basic 0 (Binary I64 Sub) (basic 0 (Compare I64 GtS) k) in
+      let k1 = basic 0 (Compare I64 GtS) k in
       let x1 = len_fetched a h (out_test C.source n k) le in
-      let x2 = len_const (values.I64 n) k1 in
-      let x3 = len_get_length (const (values.I64 n) k1) in
+      let x2 = len_beyond (n == 4) n k1 in
+      let x3 = len_get_length (beyond_word (n == 4) n k1) in
       omega (arith, x1, x2, x3)
 
   len_range : (a : Place) (h : ℕ) (n : Place) (hn : ℕ) (k : Nodes) → h ≤ C.slots → hn ≤ C.slots → code_length (range_test C a h n hn k) ≤ 41 + code_length k

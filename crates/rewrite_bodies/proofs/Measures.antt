@@ -1,4 +1,4 @@
--- The global that has the length of the memory in bytes: what reads it, what sets it, and which instructions leave that length as it is.
+-- The global that tells the length of the memory: what reads it, what sets it, and which instructions leave that length as it is.
 use Rattle.std.proofs.Common.{◌≡◌, ℕ, suc, ◌+◌, ◌*◌, ◌/◌, ◌%◌, List, [], ◌∷◌, ◌++◌, length, Option, Some, None, Bool, true, false, nat_le, refl, sym, ap, ◌∙◌, subst, arith, slice_get, slice_set, if◌then◌else◌, replicate, ◌⊎◌, inl, inr}
 use Rattle.std.proofs.Math.Nat.{mod-eq_of_lt}
 use Rattle.wasm_syntax.specs.declared.value.ValType.{ValType}
@@ -8,7 +8,7 @@ use Rattle.wasm_syntax.specs.declared.value.Value.TheVariants as values
 use Rattle.wasm_syntax.specs.declared.instruction.Basic.{Basic}
 use Rattle.wasm_syntax.specs.declared.instruction.Basic.TheVariants.{Nop, Drop, Select, LocalGet, LocalSet, LocalTee, GlobalGet, GlobalSet, MemorySize, MemoryGrow, Const, Compare, Binary, Convert}
 use Rattle.wasm_syntax.specs.declared.instruction.Convert.TheVariants.{ExtendU}
-use Rattle.int_ops.specs.declared.operators.Binary.TheVariants.{Shl}
+use Rattle.int_ops.specs.declared.operators.Binary.TheVariants.{Shl, Sub}
 use Rattle.int_ops.specs.Integers.{binary as int_binary}
 use Rattle.wasm_syntax.specs.Numbers.{number, value, modulo}
 use Rattle.wasm_syntax.specs.Tree.{Nodes, basic}
@@ -27,9 +27,9 @@ use Rattle.linear_memory.specs.Memory as memories
 use Rattle.rewrite_bodies.specs.Numbering.{flag_of}
 use Rattle.rewrite_bodies.specs.calls.Slots.{Ctx}
 use Rattle.rewrite_bodies.specs.calls.Pieces.{const}
-use Rattle.rewrite_bodies.specs.calls.Guards.{memory_length, length_of, set_length, renewed}
+use Rattle.rewrite_bodies.specs.calls.Guards.{less_word, memory_length, length_of, set_length, renewed}
 use Rattle.rewrite_bodies.specs.calls.Rewrite.{grows, lengthened}
-use Rattle.rewrite_bodies.specs.calls.Agreement.{MemoryFits, byte_count, TellsLength, with_added, flagged}
+use Rattle.rewrite_bodies.specs.calls.Agreement.{MemoryFits, byte_count, told_length, TellsLength, with_added, flagged}
 use Rattle.rewrite_bodies.specs.calls.Known.{HasLeast}
 use Rattle.rewrite_bodies.specs.calls.Steps.{To, Shell, st}
 use Rattle.rewrite_bodies.proofs.Run.{still, one_step, seq, weaken, push_to}
@@ -55,9 +55,9 @@ put_second : (g : List Value) (n : ℕ) (b v w : Value) (bs : List Value) → n 
 put_second [] n b v w bs e = let z : n ≡ 0 = e in rw z refl
 put_second (u ∷ g) n b v w bs e = let z : n ≡ suc (length g) = e in rw z (ap (λ r. u ∷ r) (put_second g (length g) b v w bs refl))
 
--- in each world of the rewritten module the global has the length
+-- in each world of the rewritten module the global tells the length
 pub tells_length : (M : Engine) (C : Ctx) (g : World) (b : Value) → flag_of C.source ≡ length g.globals → TellsLength C (flagged M g b) g.memory
-tells_length M C g b fl = get_second g.globals (flag_of C.source) b (values.I64 (byte_count g.memory)) [] fl
+tells_length M C g b fl = get_second g.globals (flag_of C.source) b (values.I64 (told_length g.memory)) [] fl
 
 -- ---- what leaves the length as it is
 
@@ -173,61 +173,64 @@ module _ (g : World) (l : List Value) where
 -- ---- the length is set
 
 module _ (M' : Engine) where
-  -- the length of the memory
-  memory_length_to : (X : Shell) (k : Nodes) (g : World) (m : Memory) (co : List CollectorCall) (tl base : List Value) → g.memory ≡ Some m → MemoryFits (Some m) → To M' 4 4 (st X tl base (memory_length k) g co) (st X tl (values.I64 (length m.bytes) ∷ base) k g co)
+  -- four bytes less than the length of the memory
+  memory_length_to : (X : Shell) (k : Nodes) (g : World) (m : Memory) (co : List CollectorCall) (tl base : List Value) → g.memory ≡ Some m → MemoryFits (Some m) → To M' 6 6 (st X tl base (memory_length k) g co) (st X tl (values.I64 (less_word (length m.bytes)) ∷ base) k g co)
   unfolding int_binary
   memory_length_to X k g m co tl base gm mf =
       let pg : pages m ≡ mf.0 = pages_are m mf in
       let p32 : modulo I32 (pages m) ≡ pages m = mod-eq_of_lt (omega (arith, pg, mf.2)) in
       let len : modulo I64 (modulo I32 (pages m) * 65536) ≡ length m.bytes = ap (λ z. modulo I64 (z * 65536)) p32 ∙ mod-eq_of_lt (omega (arith, pg, mf.2)) ∙ (omega (arith, pg, mf.1)) in
-      let k6 = const (values.I64 16) (basic 0 (Binary I64 Shl) k) in
+      let k8 = basic 0 (Binary I64 Sub) k in
+      let k7 = const (values.I64 4) k8 in
+      let k6 = const (values.I64 16) (basic 0 (Binary I64 Shl) k7) in
       let k5 = basic 0 (Convert ExtendU) k6 in
       let size64 = modulo I64 (modulo I32 (pages m) * 65536) in
       let s3 : To M' 1 1 (st X tl base (memory_length k) g co) (st X tl (values.I32 (pages m) ∷ base) k5 g co) = one_step M' _ _ (rw gm refl) in
-      let s4 : To M' 3 3 (st X tl (values.I32 (pages m) ∷ base) k5 g co) (st X tl (values.I64 size64 ∷ base) k g co) = seq M' (one_step M' _ (next (st X tl (values.I64 (modulo I32 (pages m)) ∷ base) k6 g co)) refl) (seq M' (push_to M' (values.I64 16)) (one_step M' _ _ refl)) in
-      subst (λ z. To M' 4 4 (st X tl base (memory_length k) g co) (st X tl (values.I64 z ∷ base) k g co)) len (seq M' s3 s4)
+      let s4 : To M' 3 3 (st X tl (values.I32 (pages m) ∷ base) k5 g co) (st X tl (values.I64 size64 ∷ base) k7 g co) = seq M' (one_step M' _ (next (st X tl (values.I64 (modulo I32 (pages m)) ∷ base) k6 g co)) refl) (seq M' (push_to M' (values.I64 16)) (one_step M' _ _ refl)) in
+      let s5 : To M' 2 2 (st X tl (values.I64 size64 ∷ base) k7 g co) (st X tl (values.I64 (less_word size64) ∷ base) k g co) = seq M' (push_to M' (values.I64 4)) (one_step M' _ _ refl) in
+      subst (λ z. To M' 6 6 (st X tl base (memory_length k) g co) (st X tl (values.I64 (less_word z) ∷ base) k g co)) len (seq M' s3 (seq M' s4 s5))
 
   module _ (M : Engine) (src : Module) (X : Shell) (tl s : List Value) (k : Nodes) (g : World) (co : List CollectorCall) (b : Value) (fl : flag_of src ≡ length g.globals) where
     -- whatever the global had before
-    pub set_length_to : (m : Memory) (old : ℕ) → g.memory ≡ Some m → MemoryFits (Some m) → To M' 5 5 (st X tl s (set_length src k) (with_added M g (b ∷ values.I64 old ∷ [])) co) (st X tl s k (with_added M g (b ∷ values.I64 (length m.bytes) ∷ [])) co)
+    pub set_length_to : (m : Memory) (old : ℕ) → g.memory ≡ Some m → MemoryFits (Some m) → To M' 7 7 (st X tl s (set_length src k) (with_added M g (b ∷ values.I64 old ∷ [])) co) (st X tl s k (with_added M g (b ∷ values.I64 (less_word (length m.bytes)) ∷ [])) co)
     set_length_to m old gm mf =
-        let new = values.I64 (length m.bytes) in
+        let new = values.I64 (less_word (length m.bytes)) in
         let g0 = with_added M g (b ∷ values.I64 old ∷ []) in
         let g1 = with_added M g (b ∷ new ∷ []) in
         let k1 = basic 0 (GlobalSet (length_of src)) k in
         let there = get_second g.globals (flag_of src) b (values.I64 old) [] fl in
         let put_ = put_second g.globals (flag_of src) b (values.I64 old) new [] fl in
-        let s1 : To M' 4 4 (st X tl s (set_length src k) g0 co) (st X tl (new ∷ s) k1 g0 co) = memory_length_to X k1 g0 m co tl s gm mf in
+        let s1 : To M' 6 6 (st X tl s (set_length src k) g0 co) (st X tl (new ∷ s) k1 g0 co) = memory_length_to X k1 g0 m co tl s gm mf in
         let s2 : To M' 1 1 (st X tl (new ∷ s) k1 g0 co) (st X tl s k g1 co) = step_plain M' (GlobalSet (length_of src)) (new ∷ []) s tl g1 [] s refl (rw (there, put_) refl) refl in
         seq M' s1 s2
 
     -- behind what may have made the memory longer
-    pub renew_to : (ls : List Limits) → HasLeast ls g.memory → MemoryFits g.memory → To M' 0 5 (st X tl s (renewed ls src k) (flagged M g b) co) (st X tl s k (flagged M g b) co)
+    pub renew_to : (ls : List Limits) → HasLeast ls g.memory → MemoryFits g.memory → To M' 0 7 (st X tl s (renewed ls src k) (flagged M g b) co) (st X tl s k (flagged M g b) co)
     renew_to [] has mf = weaken M' (still M' _) (omega arith) (omega arith)
     renew_to (l ∷ ls) has mf = by_memory g.memory refl has mf
       where
-        by_memory : (o : Option Memory) → g.memory ≡ o → HasLeast (l ∷ ls) o → MemoryFits o → To M' 0 5 (st X tl s (set_length src k) (flagged M g b) co) (st X tl s k (flagged M g b) co)
+        by_memory : (o : Option Memory) → g.memory ≡ o → HasLeast (l ∷ ls) o → MemoryFits o → To M' 0 7 (st X tl s (set_length src k) (flagged M g b) co) (st X tl s k (flagged M g b) co)
         by_memory None e has mf = absurd has
         by_memory (Some m) e has mf =
-            subst (λ (n : ℕ). To M' 0 5 (st X tl s (set_length src k) (with_added M g (b ∷ values.I64 n ∷ [])) co) (st X tl s k (with_added M g (b ∷ values.I64 n ∷ [])) co)) (sym (ap byte_count e)) (weaken M' (set_length_to m (length m.bytes) e mf) (omega arith) (omega arith))
+            subst (λ (n : ℕ). To M' 0 7 (st X tl s (set_length src k) (with_added M g (b ∷ values.I64 n ∷ [])) co) (st X tl s k (with_added M g (b ∷ values.I64 n ∷ [])) co)) (sym (ap told_length e)) (weaken M' (set_length_to m (less_word (length m.bytes)) e mf) (omega arith) (omega arith))
 
-    -- this code leads, from another length in the global, to the length there is
+    -- this code leads, from what the global had for another length, to what it has for this one
     abbrev Goes : Nodes → ℕ → Type 0
-    Goes code old = To M' 0 5 (st X tl s code (with_added M g (b ∷ values.I64 old ∷ [])) co) (st X tl s k (flagged M g b) co)
+    Goes code old = To M' 0 7 (st X tl s code (with_added M g (b ∷ values.I64 old ∷ [])) co) (st X tl s k (flagged M g b) co)
 
     -- behind an instruction, by whether it changes the length
-    pub lengthened_to : (C : Ctx) → C.source ≡ src → (i : Basic) (before : World) (l l' vs ws : List Value) → effect i before l vs ≡ gives g l' ws → MemoryFits g.memory → To M' 0 5 (st X tl s (lengthened (grows i) C k) (with_added M g (b ∷ values.I64 (byte_count before.memory) ∷ [])) co) (st X tl s k (flagged M g b) co)
+    pub lengthened_to : (C : Ctx) → C.source ≡ src → (i : Basic) (before : World) (l l' vs ws : List Value) → effect i before l vs ≡ gives g l' ws → MemoryFits g.memory → To M' 0 7 (st X tl s (lengthened (grows i) C k) (with_added M g (b ∷ values.I64 (told_length before.memory) ∷ [])) co) (st X tl s k (flagged M g b) co)
     lengthened_to C is i before l l' vs ws e mf = by_growth (growth i)
       where
-        grew : (m : Memory) → g.memory ≡ Some m → Goes (set_length src k) (byte_count before.memory)
+        grew : (m : Memory) → g.memory ≡ Some m → Goes (set_length src k) (told_length before.memory)
         grew m there =
-            let to = set_length_to m (byte_count before.memory) there (subst MemoryFits there mf) in
-            subst (λ (n : ℕ). To M' 0 5 (st X tl s (set_length src k) (with_added M g (b ∷ values.I64 (byte_count before.memory) ∷ [])) co) (st X tl s k (with_added M g (b ∷ values.I64 n ∷ [])) co)) (sym (ap byte_count there)) (weaken M' to (omega arith) (omega arith))
+            let to = set_length_to m (told_length before.memory) there (subst MemoryFits there mf) in
+            subst (λ (n : ℕ). To M' 0 7 (st X tl s (set_length src k) (with_added M g (b ∷ values.I64 (told_length before.memory) ∷ [])) co) (st X tl s k (with_added M g (b ∷ values.I64 n ∷ [])) co)) (sym (ap told_length there)) (weaken M' to (omega arith) (omega arith))
 
-        by_growth : (i ≡ MemoryGrow) ⊎ (grows i ≡ false) → Goes (lengthened (grows i) C k) (byte_count before.memory)
+        by_growth : (i ≡ MemoryGrow) ⊎ (grows i ≡ false) → Goes (lengthened (grows i) C k) (told_length before.memory)
         by_growth (inl same) =
             let h = subst (Grown before l) (ap (λ i. effect i before l vs) (sym same) ∙ e) (grown_has before l vs) in
-            subst (λ i. Goes (lengthened (grows i) C k) (byte_count before.memory)) (sym same) (subst (λ z. Goes (set_length z k) (byte_count before.memory)) (sym is) (grew h.0 h.1))
+            subst (λ i. Goes (lengthened (grows i) C k) (told_length before.memory)) (sym same) (subst (λ z. Goes (set_length z k) (told_length before.memory)) (sym is) (grew h.0 h.1))
         by_growth (inr stays) =
-            let kept : byte_count g.memory ≡ byte_count before.memory = subst (Keeps before.memory) e (keeps_as before l i (one_by_one i) stays vs) in
-            subst (λ q. Goes (lengthened q C k) (byte_count before.memory)) (sym stays) (subst (λ n. Goes k n) kept (weaken M' (still M' _) (omega arith) (omega arith)))
+            let kept : told_length g.memory ≡ told_length before.memory = ap less_word (subst (Keeps before.memory) e (keeps_as before l i (one_by_one i) stays vs)) in
+            subst (λ q. Goes (lengthened q C k) (told_length before.memory)) (sym stays) (subst (λ n. Goes k n) kept (weaken M' (still M' _) (omega arith) (omega arith)))

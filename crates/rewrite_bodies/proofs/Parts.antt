@@ -12,7 +12,7 @@ use Rattle.wasm_syntax.specs.Host.{World}
 use Rattle.wasm_syntax.specs.declared.host.CollectorCall.{CollectorCall}
 use Rattle.wasm_syntax.specs.Effect.{Effect, gives, fails, unfit, effect, takes, with_globals, address}
 use Rattle.wasm_syntax.specs.Machine.{Label, label, Engine, parts, one_more, cut, exactly}
-use Rattle.rewrite_bodies.specs.calls.Slots.{Place, Spilled, Known, Copied, place_type, Ctx, slot, added, grown, second_type, result_type}
+use Rattle.rewrite_bodies.specs.calls.Slots.{Place, Spilled, Known, Copied, place_type, Ctx, slot, kind_at, offset_at, added, grown, second_type, result_type}
 use Rattle.rewrite_bodies.specs.calls.Guards.{divides, can_trap}
 use Rattle.rewrite_bodies.specs.Numbering.{global_types}
 use Rattle.linear_memory.specs.Memory.{Memory, pages, grow, to_bytes}
@@ -29,7 +29,7 @@ use Rattle.rewrite_bodies.specs.calls.Agreement.{One, Holds, awaits, pending, jo
 use Rattle.rewrite_bodies.specs.calls.Known.{HasLeast}
 use Rattle.rewrite_bodies.proofs.Longer.{least_longer, put_fits, put_longer, copy_longer, grow_longer}
 use Rattle.rewrite_bodies.specs.calls.Steps.{To, Shell, st}
-use Rattle.rewrite_bodies.proofs.Run.{stored, HasPlace, if_same, slice_get-put_same, types-slice_set, added_at, more_parts, one_step, holds_put, get_own}
+use Rattle.rewrite_bodies.proofs.Run.{stored, HasPlace, if_same, slice_get-put_same, types-slice_set, added_at, Clear, clear_less, clear_slot, clear_kind, clear_offset, more_parts, one_step, holds_put, get_own}
 use Rattle.int_ops.specs.Integers.{binary as int_binary}
 use Rattle.wasm_laws.proofs.Progress.{value_type, same_of}
 use Rattle.wasm_syntax.proofs.Types.{same_type_is}
@@ -278,19 +278,19 @@ module _ (M : Engine) (gl : List ValType) (C : Ctx) (es : List Place) (l : List 
   pub framed : (i : Basic) (vs : List Value) → Match vs es → Framed i vs
   framed i vs m = framed_as i (one_by_one i) vs m
 
-pub place_of : (l ex : List Value) (h : ℕ) (e : Place) (v : Value) → One l ex h e v → type_of v ≡ place_type e
-place_of l ex h (Spilled t) v o = o.1
-place_of l ex h (Known w) v o = sym (ap type_of o)
-place_of l ex h (Copied t x) v o = o.1
+pub place_of : (C : Ctx) (l ex : List Value) (h : ℕ) (e : Place) (v : Value) → One C l ex h e v → type_of v ≡ place_type e
+place_of C l ex h (Spilled t) v o = o.1
+place_of C l ex h (Known w) v o = sym (ap type_of o)
+place_of C l ex h (Copied t x) v o = o.1
 
-pub match_of : (l ex : List Value) (m : ℕ) (js es : List Place) (ops vs below : List Value) → Holds l ex js ops es → cut m ops ≡ parts vs below → Match vs (es ++ js)
-match_of l ex zero js es ops vs below h e = let f : vs ≡ [] = cc in rw f tt
-match_of l ex (suc m) js [] [] vs below h e = absurd (cc)
-match_of l ex (suc m) js (e ∷ es) [] vs below h c = absurd h
-match_of l ex (suc m) js [] (v ∷ ops) vs below h c = absurd h
-match_of l ex (suc m) js (e ∷ es) (v ∷ ops) vs below h c =
+pub match_of : (C : Ctx) (l ex : List Value) (m : ℕ) (js es : List Place) (ops vs below : List Value) → Holds C l ex js ops es → cut m ops ≡ parts vs below → Match vs (es ++ js)
+match_of C l ex zero js es ops vs below h e = let f : vs ≡ [] = cc in rw f tt
+match_of C l ex (suc m) js [] [] vs below h e = absurd (cc)
+match_of C l ex (suc m) js (e ∷ es) [] vs below h c = absurd h
+match_of C l ex (suc m) js [] (v ∷ ops) vs below h c = absurd h
+match_of C l ex (suc m) js (e ∷ es) (v ∷ ops) vs below h c =
     let r = more_parts v (cut m ops) vs below c in
-    rw r.2 (place_of l ex (length (es ++ js)) e v h.0, match_of l ex m js es ops r.0 below h.1 r.1)
+    rw r.2 (place_of C l ex (length (es ++ js)) e v h.0, match_of C l ex m js es ops r.0 below h.1 r.1)
 
 pub cut_all : (m : ℕ) (ops vs below s : List Value) → cut m ops ≡ parts vs below → cut m (vs ++ s) ≡ parts vs s
 cut_all zero ops vs below s e = let f : vs ≡ [] = cc in rw f refl
@@ -299,35 +299,46 @@ cut_all (suc m) (v ∷ ops) vs below s e =
     let r = more_parts v (cut m ops) vs below e in
     rw r.2 (ap (one_more v) (cut_all m ops r.0 below s r.1))
 
--- labels under a write at or above their heights
-pub fits_put : (C : Ctx) (l ex : List Value) (a : Option ValType) (Ls : List Label) (ss : List (List Place)) (i : ℕ) (v : Value) → 2 * length (joined ss) ≤ i → FitsLabels C l ex a Ls ss → FitsLabels C l (slice_set ex i v) a Ls ss
-fits_put C l ex a [] [] i v le h = tt
-fits_put C l ex a [] (_ ∷ _) i v le h = absurd h
-fits_put C l ex a (L ∷ Ls) [] i v le h = absurd h
-fits_put C l ex a (L ∷ Ls) (e ∷ ss) i v le h =
-    (holds_put l ex (joined ss) e L.operands i v le h.0, h.1, h.2, h.3, fits_put C [] ex (awaits (pending L.kind)) Ls ss i v (omega (arith, length-append e (joined ss))) h.4)
+-- labels under a write where no operand of theirs is
+pub fits_put : (C : Ctx) (l ex : List Value) (a : Option ValType) (Ls : List Label) (ss : List (List Place)) (i : ℕ) (v : Value) → Clear C (length (joined ss)) i → FitsLabels C l ex a Ls ss → FitsLabels C l (slice_set ex i v) a Ls ss
+fits_put C l ex a [] [] i v clear h = tt
+fits_put C l ex a [] (_ ∷ _) i v clear h = absurd h
+fits_put C l ex a (L ∷ Ls) [] i v clear h = absurd h
+fits_put C l ex a (L ∷ Ls) (e ∷ ss) i v clear h =
+    let inner = clear_less C (length (joined ss)) (length (e ++ joined ss)) i (omega (arith, length-append e (joined ss))) clear in
+    (holds_put C l ex (joined ss) e L.operands i v clear h.0, h.1, h.2, h.3, fits_put C [] ex (awaits (pending L.kind)) Ls ss i v inner h.4)
 
-pub fits_stored : (C : Ctx) (l ex : List Value) (a r : Option ValType) (Ls : List Label) (ss : List (List Place)) (i : ValType → ℕ) (vs : List Value) → ((t : ValType) → 2 * length (joined ss) ≤ i t) → FitsLabels C l ex a Ls ss → FitsLabels C l (stored r i vs ex) a Ls ss
-fits_stored C l ex a None Ls ss i vs le h = h
-fits_stored C l ex a (Some t) Ls ss i [] le h = h
-fits_stored C l ex a (Some t) Ls ss i (v ∷ vs) le h = fits_put C l ex a Ls ss (i t) v (le t) h
+-- of the kind, and of the offset
+pub fits_kind : (C : Ctx) (l ex : List Value) (a : Option ValType) (Ls : List Label) (ss : List (List Place)) (v : Value) → length (joined ss) ≤ suc C.slots → FitsLabels C l ex a Ls ss → FitsLabels C l (slice_set ex (kind_at C) v) a Ls ss
+fits_kind C l ex a Ls ss v le h = fits_put C l ex a Ls ss (kind_at C) v (clear_kind C (length (joined ss)) le) h
+
+pub fits_offset : (C : Ctx) (l ex : List Value) (a : Option ValType) (Ls : List Label) (ss : List (List Place)) (v : Value) → length (joined ss) ≤ suc C.slots → FitsLabels C l ex a Ls ss → FitsLabels C l (slice_set ex (offset_at C) v) a Ls ss
+fits_offset C l ex a Ls ss v le h = fits_put C l ex a Ls ss (offset_at C) v (clear_offset C (length (joined ss)) le) h
+
+pub fits_stored : (C : Ctx) (l ex : List Value) (a r : Option ValType) (Ls : List Label) (ss : List (List Place)) (i : ValType → ℕ) (vs : List Value) → ((t : ValType) → Clear C (length (joined ss)) (i t)) → FitsLabels C l ex a Ls ss → FitsLabels C l (stored r i vs ex) a Ls ss
+fits_stored C l ex a None Ls ss i vs clear h = h
+fits_stored C l ex a (Some t) Ls ss i [] clear h = h
+fits_stored C l ex a (Some t) Ls ss i (v ∷ vs) clear h = fits_put C l ex a Ls ss (i t) v (clear t) h
 
 -- a slot at a height within bounds
-pub has_slot : (C : Ctx) (ex : List Value) (r : Option ValType) (h : ℕ) → types ex ≡ added C.slots → h ≤ C.slots → HasPlace r (λ t. slot t h) ex
+pub has_slot : (C : Ctx) (ex : List Value) (r : Option ValType) (h : ℕ) → types ex ≡ added C.slots → h ≤ C.slots → HasPlace r (λ t. slot C.slots t h) ex
 has_slot C ex None h ty le = tt
 has_slot C ex (Some t) h ty le = rw ty (added_at C.slots h t le)
 
 -- awaited results have arrived
-pub settle : (C : Ctx) (l ex : List Value) (r : Option ValType) (L : Label) (Ls : List Label) (e : List Place) (ss : List (List Place)) (vs : List Value) → types ex ≡ added C.slots → exactly r vs ≡ Some vs → FitsLabels C l ex r (L ∷ Ls) (e ∷ ss) → FitsLabels C l (stored r (λ t. slot t (length (e ++ joined ss))) vs ex) None (label (vs ++ L.operands) L.nodes L.end L.kind ∷ Ls) (grown r e ∷ ss)
+pub settle : (C : Ctx) (l ex : List Value) (r : Option ValType) (L : Label) (Ls : List Label) (e : List Place) (ss : List (List Place)) (vs : List Value) → types ex ≡ added C.slots → exactly r vs ≡ Some vs → FitsLabels C l ex r (L ∷ Ls) (e ∷ ss) → FitsLabels C l (stored r (λ t. slot C.slots t (length (e ++ joined ss))) vs ex) None (label (vs ++ L.operands) L.nodes L.end L.kind ∷ Ls) (grown r e ∷ ss)
 settle C l ex None L Ls e ss [] ty x h = h
 settle C l ex None L Ls e ss (_ ∷ _) ty x h = absurd (cc)
 settle C l ex (Some t) L Ls e ss [] ty x h = absurd (cc)
 settle C l ex (Some t) L Ls e ss (v ∷ []) ty x h =
     let n = length (e ++ joined ss) in
-    let i = slot t n in
-    let at : slice_get (types ex) i ≡ Some t = rw ty (added_at C.slots n t (omega (arith, h.1))) in
+    let i = slot C.slots t n in
+    let le : n ≤ C.slots = omega (arith, h.1) in
+    let at : slice_get (types ex) i ≡ Some t = rw ty (added_at C.slots n t le) in
+    let clear = clear_slot C n t le in
+    let inner = clear_less C (length (joined ss)) n i (omega (arith, length-append e (joined ss))) clear in
     let d : type_of v ≡ t = same_type_is (type_of v) t (if_same (same_type (type_of v) t) (v ∷ []) (v ∷ []) x).0 in
-    (((slice_get-put_same ex i t v at, d), holds_put l ex (joined ss) e L.operands i v (omega arith) h.0), tt, h.2, h.3, fits_put C [] ex (awaits (pending L.kind)) Ls ss i v (omega (arith, length-append e (joined ss))) h.4)
+    (((slice_get-put_same ex i t v at, d), holds_put C l ex (joined ss) e L.operands i v clear h.0), tt, h.2, h.3, fits_put C [] ex (awaits (pending L.kind)) Ls ss i v inner h.4)
 settle C l ex (Some t) L Ls e ss (v ∷ w ∷ vs) ty x h = absurd (cc)
 
 module _ (M : Engine) where

@@ -1,5 +1,5 @@
 -- Operands that the next instruction takes, and that are kept nowhere.
-use Rattle.std.proofs.Common.{◌≡◌, ℕ, zero, suc, ◌*◌, ◌≤◌, not, List, [], ◌∷◌, ◌++◌, length, Option, Some, None, Bool, true, false, refl, sym, subst, arith, slice_set, option_map, length-append, ◌&&◌}
+use Rattle.std.proofs.Common.{◌≡◌, ℕ, zero, suc, ◌≤◌, not, List, [], ◌∷◌, ◌++◌, length, Option, Some, None, Bool, true, false, refl, sym, subst, arith, slice_set, option_map, length-append, ◌&&◌}
 use Rattle.wasm_syntax.specs.declared.value.ValType.{ValType}
 use Rattle.wasm_syntax.specs.declared.value.Value.{Value}
 use Rattle.wasm_syntax.specs.declared.value.Value.TheVariants as values
@@ -17,7 +17,7 @@ use Rattle.rewrite_bodies.specs.calls.Rewrite.{any, passes}
 use Rattle.rewrite_bodies.specs.calls.Facts.{needs}
 use Rattle.rewrite_bodies.specs.calls.Agreement.{Holds, HoldsBut, awaits, pending, joined, FitsLabels, FitsOpen}
 use Rattle.rewrite_bodies.specs.calls.Steps.{To, Shell, st}
-use Rattle.rewrite_bodies.proofs.Run.{stored, HasPlace, if_same, types-stored, more_parts, still, weaken, kept_to, less_holds, holds_put}
+use Rattle.rewrite_bodies.proofs.Run.{stored, HasPlace, if_same, types-stored, Clear, clear_less, clear_offset, more_parts, still, weaken, kept_to, less_holds, holds_put}
 use Rattle.rewrite_bodies.proofs.Parts.{Match, place_of, match_of, fits_put, fits_stored, settle}
 use Rattle.rewrite_bodies.proofs.Landed.{marked}
 
@@ -41,59 +41,62 @@ passes_some C o i rest p = first (any (takes i)) (not (needs C o i)) p
 
 -- ---- what holds of them
 
-pub loosened : (p : Bool) (l ex : List Value) (js es : List Place) (ops : List Value) → Holds l ex js ops es → HoldsBut p l ex js ops es
-loosened false l ex js es ops h = h
-loosened true l ex js [] [] h = tt
-loosened true l ex js [] (v ∷ ops) h = absurd h
-loosened true l ex js (e ∷ es) [] h = absurd h
-loosened true l ex js (e ∷ es) (v ∷ ops) h = (place_of l ex (length (es ++ js)) e v h.0, h.1)
+pub loosened : (C : Ctx) (p : Bool) (l ex : List Value) (js es : List Place) (ops : List Value) → Holds C l ex js ops es → HoldsBut C p l ex js ops es
+loosened C false l ex js es ops h = h
+loosened C true l ex js [] [] h = tt
+loosened C true l ex js [] (v ∷ ops) h = absurd h
+loosened C true l ex js (e ∷ es) [] h = absurd h
+loosened C true l ex js (e ∷ es) (v ∷ ops) h = (place_of C l ex (length (es ++ js)) e v h.0, h.1)
 
 -- a label that waited for nothing goes on
 pub as_open : (C : Ctx) (l ex : List Value) (L : Label) (Ls : List Label) (e : List Place) (ss : List (List Place)) → FitsLabels C l ex None (L ∷ Ls) (e ∷ ss) → FitsOpen C l ex None (L ∷ Ls) (e ∷ ss)
-as_open C l ex L Ls e ss h = (loosened (passes C L.nodes) l ex (joined ss) e L.operands h.0, h.1, h.2, h.3, h.4)
+as_open C l ex L Ls e ss h = (loosened C (passes C L.nodes) l ex (joined ss) e L.operands h.0, h.1, h.2, h.3, h.4)
 
 -- all are kept where none passes
 pub kept_all : (C : Ctx) (l ex : List Value) (L : Label) (Ls : List Label) (e : List Place) (ss : List (List Place)) → passes C L.nodes ≡ false → FitsOpen C l ex None (L ∷ Ls) (e ∷ ss) → FitsLabels C l ex None (L ∷ Ls) (e ∷ ss)
-kept_all C l ex L Ls e ss p h = (subst (λ q. HoldsBut q l ex (joined ss) L.operands e) p h.0, h.1, h.2, h.3, h.4)
+kept_all C l ex L Ls e ss p h = (subst (λ q. HoldsBut C q l ex (joined ss) L.operands e) p h.0, h.1, h.2, h.3, h.4)
 
 -- what is left of them when so many are taken
-pub less_but : (p : Bool) (l ex : List Value) (m : ℕ) (js es : List Place) (ops vs below : List Value) → (p ≡ true → any m ≡ true) → HoldsBut p l ex js ops es → cut m ops ≡ parts vs below → (es' : List Place) × (less m (es ++ js) ≡ es' ++ js) × Holds l ex js below es'
-less_but false l ex m js es ops vs below some h c = less_holds l ex m js es ops vs below h c
-less_but true l ex zero js es ops vs below some h c = absurd (let f : false ≡ true = some refl in cc)
-less_but true l ex (suc m) js [] [] vs below some h c = absurd (cc)
-less_but true l ex (suc m) js [] (v ∷ ops) vs below some h c = absurd h
-less_but true l ex (suc m) js (e ∷ es) [] vs below some h c = absurd h
-less_but true l ex (suc m) js (e ∷ es) (v ∷ ops) vs below some h c =
+pub less_but : (C : Ctx) (p : Bool) (l ex : List Value) (m : ℕ) (js es : List Place) (ops vs below : List Value) → (p ≡ true → any m ≡ true) → HoldsBut C p l ex js ops es → cut m ops ≡ parts vs below → (es' : List Place) × (less m (es ++ js) ≡ es' ++ js) × Holds C l ex js below es'
+less_but C false l ex m js es ops vs below some h c = less_holds C l ex m js es ops vs below h c
+less_but C true l ex zero js es ops vs below some h c = absurd (let f : false ≡ true = some refl in cc)
+less_but C true l ex (suc m) js [] [] vs below some h c = absurd (cc)
+less_but C true l ex (suc m) js [] (v ∷ ops) vs below some h c = absurd h
+less_but C true l ex (suc m) js (e ∷ es) [] vs below some h c = absurd h
+less_but C true l ex (suc m) js (e ∷ es) (v ∷ ops) vs below some h c =
     let r = more_parts v (cut m ops) vs below c in
-    less_holds l ex m js es ops r.0 below h.1 r.1
+    less_holds C l ex m js es ops r.0 below h.1 r.1
 
-pub match_but : (p : Bool) (l ex : List Value) (m : ℕ) (js es : List Place) (ops vs below : List Value) → (p ≡ true → any m ≡ true) → HoldsBut p l ex js ops es → cut m ops ≡ parts vs below → Match vs (es ++ js)
-match_but false l ex m js es ops vs below some h c = match_of l ex m js es ops vs below h c
-match_but true l ex zero js es ops vs below some h c = absurd (let f : false ≡ true = some refl in cc)
-match_but true l ex (suc m) js [] [] vs below some h c = absurd (cc)
-match_but true l ex (suc m) js [] (v ∷ ops) vs below some h c = absurd h
-match_but true l ex (suc m) js (e ∷ es) [] vs below some h c = absurd h
-match_but true l ex (suc m) js (e ∷ es) (v ∷ ops) vs below some h c =
+pub match_but : (C : Ctx) (p : Bool) (l ex : List Value) (m : ℕ) (js es : List Place) (ops vs below : List Value) → (p ≡ true → any m ≡ true) → HoldsBut C p l ex js ops es → cut m ops ≡ parts vs below → Match vs (es ++ js)
+match_but C false l ex m js es ops vs below some h c = match_of C l ex m js es ops vs below h c
+match_but C true l ex zero js es ops vs below some h c = absurd (let f : false ≡ true = some refl in cc)
+match_but C true l ex (suc m) js [] [] vs below some h c = absurd (cc)
+match_but C true l ex (suc m) js [] (v ∷ ops) vs below some h c = absurd h
+match_but C true l ex (suc m) js (e ∷ es) [] vs below some h c = absurd h
+match_but C true l ex (suc m) js (e ∷ es) (v ∷ ops) vs below some h c =
     let r = more_parts v (cut m ops) vs below c in
-    rw r.2 (h.0, match_of l ex m js es ops r.0 below h.1 r.1)
+    rw r.2 (h.0, match_of C l ex m js es ops r.0 below h.1 r.1)
 
--- ---- under a write above their slots
+-- ---- under a write outside of their slots
 
-but_put : (p : Bool) (l ex : List Value) (js es : List Place) (ops : List Value) (i : ℕ) (w : Value) → 2 * length (es ++ js) ≤ i → HoldsBut p l ex js ops es → HoldsBut p l (slice_set ex i w) js ops es
-but_put false l ex js es ops i w le h = holds_put l ex js es ops i w le h
-but_put true l ex js [] [] i w le h = tt
-but_put true l ex js [] (v ∷ ops) i w le h = absurd h
-but_put true l ex js (e ∷ es) [] i w le h = absurd h
-but_put true l ex js (e ∷ es) (v ∷ ops) i w le h = (h.0, holds_put l ex js es ops i w (omega (arith, le)) h.1)
+but_put : (C : Ctx) (p : Bool) (l ex : List Value) (js es : List Place) (ops : List Value) (i : ℕ) (w : Value) → Clear C (length (es ++ js)) i → HoldsBut C p l ex js ops es → HoldsBut C p l (slice_set ex i w) js ops es
+but_put C false l ex js es ops i w clear h = holds_put C l ex js es ops i w clear h
+but_put C true l ex js [] [] i w clear h = tt
+but_put C true l ex js [] (v ∷ ops) i w clear h = absurd h
+but_put C true l ex js (e ∷ es) [] i w clear h = absurd h
+but_put C true l ex js (e ∷ es) (v ∷ ops) i w clear h =
+    let n = length (es ++ js) in
+    (h.0, holds_put C l ex js es ops i w (clear_less C n (suc n) i (omega arith) clear) h.1)
 
-pub open_put : (C : Ctx) (l ex : List Value) (L : Label) (Ls : List Label) (e : List Place) (ss : List (List Place)) (i : ℕ) (w : Value) → 2 * length (e ++ joined ss) ≤ i → FitsOpen C l ex None (L ∷ Ls) (e ∷ ss) → FitsOpen C l (slice_set ex i w) None (L ∷ Ls) (e ∷ ss)
-open_put C l ex L Ls e ss i w le h =
-    (but_put (passes C L.nodes) l ex (joined ss) e L.operands i w le h.0, h.1, h.2, h.3, fits_put C [] ex (awaits (pending L.kind)) Ls ss i w (omega (arith, le, length-append e (joined ss))) h.4)
+pub open_put : (C : Ctx) (l ex : List Value) (L : Label) (Ls : List Label) (e : List Place) (ss : List (List Place)) (i : ℕ) (w : Value) → Clear C (length (e ++ joined ss)) i → FitsOpen C l ex None (L ∷ Ls) (e ∷ ss) → FitsOpen C l (slice_set ex i w) None (L ∷ Ls) (e ∷ ss)
+open_put C l ex L Ls e ss i w clear h =
+    let inner = clear_less C (length (joined ss)) (length (e ++ joined ss)) i (omega (arith, length-append e (joined ss))) clear in
+    (but_put C (passes C L.nodes) l ex (joined ss) e L.operands i w clear h.0, h.1, h.2, h.3, fits_put C [] ex (awaits (pending L.kind)) Ls ss i w inner h.4)
 
 -- in front of a guard
 pub open_marked : (q : Option ℕ) (C : Ctx) (o : ℕ) (l ex : List Value) (L : Label) (Ls : List Label) (e : List Place) (ss : List (List Place)) → length (e ++ joined ss) ≤ C.slots → FitsOpen C l ex None (L ∷ Ls) (e ∷ ss) → FitsOpen C l (marked q C o ex) None (L ∷ Ls) (e ∷ ss)
 open_marked None C o l ex L Ls e ss low h = h
-open_marked (Some n) C o l ex L Ls e ss low h = open_put C l ex L Ls e ss (offset_at C) (values.I32 o) (omega (arith, low)) h
+open_marked (Some n) C o l ex L Ls e ss low h = open_put C l ex L Ls e ss (offset_at C) (values.I32 o) (clear_offset C (length (e ++ joined ss)) (omega (arith, low))) h
 
 -- ---- results that are kept, or pass
 
@@ -105,24 +108,24 @@ pub types_unless : (p : Bool) (r : Option ValType) (i : ValType → ℕ) (vs ex 
 types_unless true r i vs ex h e = refl
 types_unless false r i vs ex h e = types-stored r i vs ex h e
 
-pub fits_unless : (p : Bool) (C : Ctx) (l ex : List Value) (a r : Option ValType) (Ls : List Label) (ss : List (List Place)) (i : ValType → ℕ) (vs : List Value) → ((t : ValType) → 2 * length (joined ss) ≤ i t) → FitsLabels C l ex a Ls ss → FitsLabels C l (stored_unless p r i vs ex) a Ls ss
-fits_unless true C l ex a r Ls ss i vs le h = h
-fits_unless false C l ex a r Ls ss i vs le h = fits_stored C l ex a r Ls ss i vs le h
+pub fits_unless : (p : Bool) (C : Ctx) (l ex : List Value) (a r : Option ValType) (Ls : List Label) (ss : List (List Place)) (i : ValType → ℕ) (vs : List Value) → ((t : ValType) → Clear C (length (joined ss)) (i t)) → FitsLabels C l ex a Ls ss → FitsLabels C l (stored_unless p r i vs ex) a Ls ss
+fits_unless true C l ex a r Ls ss i vs clear h = h
+fits_unless false C l ex a r Ls ss i vs clear h = fits_stored C l ex a r Ls ss i vs clear h
 
 -- awaited results have arrived
-pub arrived : (p : Bool) (C : Ctx) (l ex : List Value) (r : Option ValType) (L : Label) (Ls : List Label) (e : List Place) (ss : List (List Place)) (vs : List Value) → passes C L.nodes ≡ p → types ex ≡ added C.slots → exactly r vs ≡ Some vs → FitsLabels C l ex r (L ∷ Ls) (e ∷ ss) → FitsOpen C l (stored_unless p r (λ t. slot t (length (e ++ joined ss))) vs ex) None (label (vs ++ L.operands) L.nodes L.end L.kind ∷ Ls) (grown r e ∷ ss)
+pub arrived : (p : Bool) (C : Ctx) (l ex : List Value) (r : Option ValType) (L : Label) (Ls : List Label) (e : List Place) (ss : List (List Place)) (vs : List Value) → passes C L.nodes ≡ p → types ex ≡ added C.slots → exactly r vs ≡ Some vs → FitsLabels C l ex r (L ∷ Ls) (e ∷ ss) → FitsOpen C l (stored_unless p r (λ t. slot C.slots t (length (e ++ joined ss))) vs ex) None (label (vs ++ L.operands) L.nodes L.end L.kind ∷ Ls) (grown r e ∷ ss)
 arrived false C l ex r L Ls e ss vs is ty x h =
-    as_open C l (stored r (λ t. slot t (length (e ++ joined ss))) vs ex) (label (vs ++ L.operands) L.nodes L.end L.kind) Ls (grown r e) ss (settle C l ex r L Ls e ss vs ty x h)
+    as_open C l (stored r (λ t. slot C.slots t (length (e ++ joined ss))) vs ex) (label (vs ++ L.operands) L.nodes L.end L.kind) Ls (grown r e) ss (settle C l ex r L Ls e ss vs ty x h)
 arrived true C l ex None L Ls e ss [] is ty x h = as_open C l ex L Ls e ss h
 arrived true C l ex None L Ls e ss (_ ∷ _) is ty x h = absurd (cc)
 arrived true C l ex (Some t) L Ls e ss [] is ty x h = absurd (cc)
 arrived true C l ex (Some t) L Ls e ss (v ∷ []) is ty x h =
     let d : type_of v ≡ t = same_type_is (type_of v) t (if_same (same_type (type_of v) t) (v ∷ []) (v ∷ []) x).0 in
-    (subst (λ q. HoldsBut q l ex (joined ss) (v ∷ L.operands) (Spilled t ∷ e)) (sym is) (d, h.0), tt, h.2, h.3, h.4)
+    (subst (λ q. HoldsBut C q l ex (joined ss) (v ∷ L.operands) (Spilled t ∷ e)) (sym is) (d, h.0), tt, h.2, h.3, h.4)
 arrived true C l ex (Some t) L Ls e ss (v ∷ w ∷ vs) is ty x h = absurd (cc)
 
 module _ (M : Engine) (C : Ctx) (l : List Value) (size : length C.locals ≡ length l) where
-  pub kept_unless : (p : Bool) {X : Shell} {g : World} {co : List CollectorCall} (ex : List Value) (r : Option ValType) (es : List Place) (vs s : List Value) (k : Nodes) → HasPlace r (λ t. slot t (length es)) ex → exactly r vs ≡ Some vs → To M 0 1 (st X (l ++ ex) (vs ++ s) (keep p C (option_map Spilled r) es k) g co) (st X (l ++ stored_unless p r (λ t. slot t (length es)) vs ex) (vs ++ s) k g co)
+  pub kept_unless : (p : Bool) {X : Shell} {g : World} {co : List CollectorCall} (ex : List Value) (r : Option ValType) (es : List Place) (vs s : List Value) (k : Nodes) → HasPlace r (λ t. slot C.slots t (length es)) ex → exactly r vs ≡ Some vs → To M 0 1 (st X (l ++ ex) (vs ++ s) (keep p C (option_map Spilled r) es k) g co) (st X (l ++ stored_unless p r (λ t. slot C.slots t (length es)) vs ex) (vs ++ s) k g co)
   kept_unless true ex None es vs s k h e = weaken M (still M _) (omega arith) (omega arith)
   kept_unless true ex (Some t) es vs s k h e = weaken M (still M _) (omega arith) (omega arith)
   kept_unless false ex r es vs s k h e = kept_to M C l size ex r es vs s k h e

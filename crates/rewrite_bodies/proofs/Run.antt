@@ -1,5 +1,8 @@
 -- Runs of so many steps, and what the small pieces of rewritten code do.
-use Rattle.std.proofs.Common.{◌≡◌, ℕ, zero, suc, ◌+◌, ◌*◌, ◌<◌, ◌≤◌, List, [], ◌∷◌, ◌++◌, length, Option, Some, None, Bool, true, false, refl, sym, ap, ◌∙◌, subst, arith, ◌≢◌, slice_get, slice_set, option_map}
+use Rattle.std.proofs.Common.{◌≡◌, ℕ, zero, suc, ◌+◌, ◌*◌, ◌<◌, ◌≤◌, List, [], ◌∷◌, ◌++◌, length, Option, Some, None, Bool, true, false, refl, sym, ap, ◌∙◌, subst, arith, ◌≢◌, slice_get, slice_set, option_map, replicate}
+use Rattle.std.proofs.lemmas.List.{length-replicate, get_or-replicate}
+use Rattle.std.proofs.lemmas.Option.{slice_get-get_or}
+use Rattle.pm_text.proofs.Lists.{get_front}
 use Rattle.wasm_syntax.specs.declared.value.ValType.{ValType}
 use Rattle.wasm_syntax.specs.declared.value.ValType.TheVariants.{I32, I64}
 use Rattle.wasm_syntax.specs.declared.value.Value.{Value}
@@ -9,7 +12,7 @@ use Rattle.wasm_syntax.specs.Tree.{Nodes, basic}
 use Rattle.wasm_syntax.specs.Host.{World}
 use Rattle.wasm_syntax.specs.declared.host.CollectorCall.{CollectorCall}
 use Rattle.wasm_syntax.specs.Machine.{Config, Engine, Stepped, next, ends, traps, no_reply, bad_reply, stuck, Cut, short, parts, one_more, cut, exactly, step}
-use Rattle.rewrite_bodies.specs.calls.Slots.{Place, Spilled, Known, Copied, Ctx, slot, kind_at, added, less}
+use Rattle.rewrite_bodies.specs.calls.Slots.{Place, Spilled, Known, Copied, Ctx, slot, kind_at, offset_at, added, less}
 use Rattle.rewrite_bodies.specs.calls.Pieces.{get, set, const, fetch, load, keep, store, reload, drops}
 use Rattle.rewrite_bodies.specs.calls.Agreement.{One, Holds}
 use Rattle.rewrite_bodies.specs.calls.Steps.{went, run, Gets, To, Shell, st}
@@ -53,21 +56,23 @@ types-slice_set (x ∷ ex) zero t v e d = let z : type_of v ≡ type_of x = cc i
 types-slice_set (x ∷ ex) (suc i) t v e d = ap (λ q. type_of x ∷ q) (types-slice_set ex i t v e d)
 
 -- the types of the added locals
-pub added_at : (n h : ℕ) (t : ValType) → h ≤ n → slice_get (added n) (slot t h) ≡ Some t
-added_at zero zero I32 le = refl
-added_at zero zero I64 le = refl
-added_at zero (suc h) t le = absurd (omega arith)
-added_at (suc n) zero I32 le = refl
-added_at (suc n) zero I64 le = refl
-added_at (suc n) (suc h) t le = let z : slot t (suc h) ≡ suc (suc (slot t h)) = omega arith in rw z (added_at n h t (omega arith))
+same_at : (n i : ℕ) (t : ValType) → i < n → slice_get (replicate n t) i ≡ Some t
+same_at n i t lt = slice_get-get_or (replicate n t) i t (omega (arith, lt, length-replicate {A = ValType} n t)) ∙ ap Some (get_or-replicate n i t t lt)
 
-pub added_kind : (n : ℕ) → slice_get (added n) (2 * n + 2) ≡ Some I32
-added_kind zero = refl
-added_kind (suc n) = let z : 2 * suc n + 2 ≡ suc (suc (2 * n + 2)) = omega arith in rw z (added_kind n)
+added_i32 : (n i : ℕ) → i < n + 3 → slice_get (added n) i ≡ Some I32
+added_i32 n i lt = get_front (replicate (n + 3) I32) (replicate (n + 1) I64) i I32 (same_at (n + 3) i I32 lt)
 
-pub added_offset : (n : ℕ) → slice_get (added n) (2 * n + 3) ≡ Some I32
-added_offset zero = refl
-added_offset (suc n) = let z : 2 * suc n + 3 ≡ suc (suc (2 * n + 3)) = omega arith in rw z (added_offset n)
+pub added_at : (n h : ℕ) (t : ValType) → h ≤ n → slice_get (added n) (slot n t h) ≡ Some t
+added_at n h I32 le = added_i32 n h (omega (arith, le))
+added_at n h I64 le =
+    slice_get-append (replicate (n + 3) I32) (replicate (n + 1) I64) (n + 3) h (sym (length-replicate {A = ValType} (n + 3) I32))
+    ∙ same_at (n + 1) h I64 (omega (arith, le))
+
+pub added_kind : (n : ℕ) → slice_get (added n) (n + 1) ≡ Some I32
+added_kind n = added_i32 n (n + 1) (omega arith)
+
+pub added_offset : (n : ℕ) → slice_get (added n) (n + 2) ≡ Some I32
+added_offset n = added_i32 n (n + 2) (omega arith)
 
 -- the added locals after results went to a place
 abbrev pub stored : Option ValType → (ValType → ℕ) → List Value → List Value → List Value
@@ -80,10 +85,37 @@ stored_other None i vs ex j ne = refl
 stored_other (Some t) i [] ex j ne = refl
 stored_other (Some t) i (v ∷ vs) ex j ne = slice_get-put_other ex j (i t) v (ne t)
 
--- the kind has no slot
-pub kind_no_slot : (C : Ctx) (h : ℕ) (t : ValType) → h ≤ C.slots → kind_at C ≢ slot t h
-kind_no_slot C h I32 le = omega arith
+-- slots of different heights are apart
+pub apart : (C : Ctx) (t u : ValType) (h k : ℕ) → h < k → k ≤ C.slots → slot C.slots t h ≢ slot C.slots u k
+apart C I32 I32 h k lt le = omega (arith, lt)
+apart C I32 I64 h k lt le = omega (arith, lt)
+apart C I64 I32 h k lt le = omega (arith, le)
+apart C I64 I64 h k lt le = omega (arith, lt)
+
+-- the kind has no slot, and the offset has none
+pub kind_no_slot : (C : Ctx) (h : ℕ) (t : ValType) → h ≤ C.slots → kind_at C ≢ slot C.slots t h
+kind_no_slot C h I32 le = omega (arith, le)
 kind_no_slot C h I64 le = omega arith
+
+offset_no_slot : (C : Ctx) (h : ℕ) (t : ValType) → h ≤ C.slots → offset_at C ≢ slot C.slots t h
+offset_no_slot C h I32 le = omega (arith, le)
+offset_no_slot C h I64 le = omega arith
+
+-- no height below this one has its slot there
+abbrev pub Clear : Ctx → ℕ → ℕ → Type 0
+Clear C n i = (t : ValType) (h : ℕ) → h < n → slot C.slots t h ≢ i
+
+pub clear_less : (C : Ctx) (m n i : ℕ) → m ≤ n → Clear C n i → Clear C m i
+clear_less C m n i le clear = λ t h lt. clear t h (omega (arith, lt, le))
+
+pub clear_slot : (C : Ctx) (n : ℕ) (t : ValType) → n ≤ C.slots → Clear C n (slot C.slots t n)
+clear_slot C n t le = λ u h lt. apart C u t h n lt le
+
+pub clear_kind : (C : Ctx) (n : ℕ) → n ≤ suc C.slots → Clear C n (kind_at C)
+clear_kind C n le = λ t h lt e. kind_no_slot C h t (omega (arith, lt, le)) (sym e)
+
+pub clear_offset : (C : Ctx) (n : ℕ) → n ≤ suc C.slots → Clear C n (offset_at C)
+clear_offset C n le = λ t h lt e. offset_no_slot C h t (omega (arith, lt, le)) (sym e)
 
 -- there is a place for the result
 abbrev pub HasPlace : Option ValType → (ValType → ℕ) → List Value → Type 0
@@ -109,28 +141,28 @@ cut_front [] below = refl
 cut_front (v ∷ vs) below = ap (one_more v) (cut_front vs below)
 
 -- what is left of them
-pub less_holds : (l ex : List Value) (m : ℕ) (js es : List Place) (ops vs below : List Value) → Holds l ex js ops es → cut m ops ≡ parts vs below → (es' : List Place) × (less m (es ++ js) ≡ es' ++ js) × Holds l ex js below es'
-less_holds l ex zero js es ops vs below h e = let f : ops ≡ below = cc in (es, refl, rw f at h)
-less_holds l ex (suc m) js [] [] vs below h e = absurd (cc)
-less_holds l ex (suc m) js (e ∷ es) [] vs below h c = absurd h
-less_holds l ex (suc m) js [] (v ∷ ops) vs below h c = absurd h
-less_holds l ex (suc m) js (e ∷ es) (v ∷ ops) vs below h c =
+pub less_holds : (C : Ctx) (l ex : List Value) (m : ℕ) (js es : List Place) (ops vs below : List Value) → Holds C l ex js ops es → cut m ops ≡ parts vs below → (es' : List Place) × (less m (es ++ js) ≡ es' ++ js) × Holds C l ex js below es'
+less_holds C l ex zero js es ops vs below h e = let f : ops ≡ below = cc in (es, refl, rw f at h)
+less_holds C l ex (suc m) js [] [] vs below h e = absurd (cc)
+less_holds C l ex (suc m) js (e ∷ es) [] vs below h c = absurd h
+less_holds C l ex (suc m) js [] (v ∷ ops) vs below h c = absurd h
+less_holds C l ex (suc m) js (e ∷ es) (v ∷ ops) vs below h c =
     let r = more_parts v (cut m ops) vs below c in
-    less_holds l ex m js es ops r.0 below h.1 r.1
+    less_holds C l ex m js es ops r.0 below h.1 r.1
 
--- the places below a height are not touched by a write at it
-pub one_put : (l ex : List Value) (h i : ℕ) (v w : Value) (e : Place) → 2 * h + 1 < i → One l ex h e v → One l (slice_set ex i w) h e v
-one_put l ex h i v w (Spilled I32) lt o = let ne : slot I32 h ≢ i = omega arith in (slice_get-put_other ex (slot I32 h) i w ne ∙ o.0, o.1)
-one_put l ex h i v w (Spilled I64) lt o = let ne : slot I64 h ≢ i = omega arith in (slice_get-put_other ex (slot I64 h) i w ne ∙ o.0, o.1)
-one_put l ex h i v w (Known u) lt o = o
-one_put l ex h i v w (Copied t x) lt o = o
+-- places are not touched by a write where none of their heights has its slot
+one_put : (C : Ctx) (l ex : List Value) (h i : ℕ) (v w : Value) (e : Place) → ((t : ValType) → slot C.slots t h ≢ i) → One C l ex h e v → One C l (slice_set ex i w) h e v
+one_put C l ex h i v w (Spilled t) clear o = (slice_get-put_other ex (slot C.slots t h) i w (clear t) ∙ o.0, o.1)
+one_put C l ex h i v w (Known u) clear o = o
+one_put C l ex h i v w (Copied t x) clear o = o
 
-pub holds_put : (l ex : List Value) (js es : List Place) (ops : List Value) (i : ℕ) (w : Value) → 2 * length (es ++ js) ≤ i → Holds l ex js ops es → Holds l (slice_set ex i w) js ops es
-holds_put l ex js [] [] i w le h = tt
-holds_put l ex js (e ∷ es) [] i w le h = absurd h
-holds_put l ex js [] (v ∷ ops) i w le h = absurd h
-holds_put l ex js (e ∷ es) (v ∷ ops) i w le h =
-    (one_put l ex (length (es ++ js)) i v w e (omega arith) h.0, holds_put l ex js es ops i w (omega arith) h.1)
+pub holds_put : (C : Ctx) (l ex : List Value) (js es : List Place) (ops : List Value) (i : ℕ) (w : Value) → Clear C (length (es ++ js)) i → Holds C l ex js ops es → Holds C l (slice_set ex i w) js ops es
+holds_put C l ex js [] [] i w clear h = tt
+holds_put C l ex js (e ∷ es) [] i w clear h = absurd h
+holds_put C l ex js [] (v ∷ ops) i w clear h = absurd h
+holds_put C l ex js (e ∷ es) (v ∷ ops) i w clear h =
+    let n = length (es ++ js) in
+    (one_put C l ex n i v w e (λ t. clear t n (omega arith)) h.0, holds_put C l ex js es ops i w (clear_less C n (suc n) i (omega arith) clear) h.1)
 
 module _ (M : Engine) where
   went-to : (more more' : Config → Stepped) (n k : ℕ) (q r : Stepped) (c' : Config) → ((c : Config) → more c ≡ next c' → more' c ≡ r) → went M more n q ≡ next c' → went M more' k q ≡ r
@@ -207,13 +239,13 @@ module _ (M : Engine) where
         let w = get_type ex h t at in
         subst (λ z. To M 1 1 (st X (l ++ ex) (v ∷ s) (basic 0 (LocalTee (length C.locals + h)) k) g co) (st X z (v ∷ s) k g co)) (slice_set-append l ex (length C.locals) h v size) (tee_to ((length C.locals) + h) v w.0 (slice_get-append l ex (length C.locals) h size ∙ w.1) (w.2 ∙ sym d))
 
-    pub fetch_to : {X : Shell} {s : List Value} {k : Nodes} {g : World} {co : List CollectorCall} (ex : List Value) (h : ℕ) (e : Place) (v : Value) → One l ex h e v → To M 1 1 (st X (l ++ ex) s (fetch C e h k) g co) (st X (l ++ ex) (v ∷ s) k g co)
-    fetch_to ex h (Spilled t) v o = added_get ex (slot t h) v o.0
+    pub fetch_to : {X : Shell} {s : List Value} {k : Nodes} {g : World} {co : List CollectorCall} (ex : List Value) (h : ℕ) (e : Place) (v : Value) → One C l ex h e v → To M 1 1 (st X (l ++ ex) s (fetch C e h k) g co) (st X (l ++ ex) (v ∷ s) k g co)
+    fetch_to ex h (Spilled t) v o = added_get ex (slot C.slots t h) v o.0
     fetch_to {X = X} {s = s} {k = k} {g = g} {co = co} ex h (Known w) v o = subst (λ t. To M 1 1 (st X (l ++ ex) s (const w k) g co) (st X (l ++ ex) (t ∷ s) k g co)) o (push_to w)
     fetch_to ex h (Copied t x) v o = get_to x v (get_own l ex x v o.0)
 
     -- operands of the innermost label are fetched
-    pub load_to : {X : Shell} {g : World} {co : List CollectorCall} (ex : List Value) (m : ℕ) (js es : List Place) (ops s vs below : List Value) (k : Nodes) → Holds l ex js ops es → cut m ops ≡ parts vs below → To M m m (st X (l ++ ex) s (load C m (es ++ js) k) g co) (st X (l ++ ex) (vs ++ s) k g co)
+    pub load_to : {X : Shell} {g : World} {co : List CollectorCall} (ex : List Value) (m : ℕ) (js es : List Place) (ops s vs below : List Value) (k : Nodes) → Holds C l ex js ops es → cut m ops ≡ parts vs below → To M m m (st X (l ++ ex) s (load C m (es ++ js) k) g co) (st X (l ++ ex) (vs ++ s) k g co)
     load_to ex zero js es ops s vs below k h e = let f : vs ≡ [] = cc in rw f (still _)
     load_to ex (suc m) js [] [] s vs below k h e = absurd (cc)
     load_to ex (suc m) js (e ∷ es) [] s vs below k h c = absurd h
@@ -223,25 +255,25 @@ module _ (M : Engine) where
         rw r.2 (weaken (seq (load_to ex m js es ops s r.0 below (fetch C e (length (es ++ js)) k) h.1 r.1) (fetch_to ex (length (es ++ js)) e v h.0)) (omega arith) (omega arith))
 
     -- results go to their slots
-    pub store_to : {X : Shell} {g : World} {co : List CollectorCall} (ex : List Value) (r : Option ValType) (es : List Place) (vs : List Value) (k : Nodes) → HasPlace r (λ t. slot t (length es)) ex → exactly r vs ≡ Some vs → To M 0 1 (st X (l ++ ex) vs (store C r es k) g co) (st X (l ++ stored r (λ t. slot t (length es)) vs ex) [] k g co)
+    pub store_to : {X : Shell} {g : World} {co : List CollectorCall} (ex : List Value) (r : Option ValType) (es : List Place) (vs : List Value) (k : Nodes) → HasPlace r (λ t. slot C.slots t (length es)) ex → exactly r vs ≡ Some vs → To M 0 1 (st X (l ++ ex) vs (store C r es k) g co) (st X (l ++ stored r (λ t. slot C.slots t (length es)) vs ex) [] k g co)
     store_to ex None es [] k p e = weaken (still _) (omega arith) (omega arith)
     store_to ex None es (v ∷ vs) k p e = absurd (cc)
     store_to ex (Some t) es [] k p e = absurd (cc)
-    store_to ex (Some t) es (v ∷ []) k p e = weaken (added_set ex (slot t (length es)) t v p (same_type_is (type_of v) t (if_same (same_type (type_of v) t) (v ∷ []) (v ∷ []) e).0)) (omega arith) (omega arith)
+    store_to ex (Some t) es (v ∷ []) k p e = weaken (added_set ex (slot C.slots t (length es)) t v p (same_type_is (type_of v) t (if_same (same_type (type_of v) t) (v ∷ []) (v ∷ []) e).0)) (omega arith) (omega arith)
     store_to ex (Some t) es (v ∷ w ∷ vs) k p e = absurd (cc)
 
     -- and are kept there besides
-    pub kept_to : {X : Shell} {g : World} {co : List CollectorCall} (ex : List Value) (r : Option ValType) (es : List Place) (vs s : List Value) (k : Nodes) → HasPlace r (λ t. slot t (length es)) ex → exactly r vs ≡ Some vs → To M 0 1 (st X (l ++ ex) (vs ++ s) (keep false C (option_map Spilled r) es k) g co) (st X (l ++ stored r (λ t. slot t (length es)) vs ex) (vs ++ s) k g co)
+    pub kept_to : {X : Shell} {g : World} {co : List CollectorCall} (ex : List Value) (r : Option ValType) (es : List Place) (vs s : List Value) (k : Nodes) → HasPlace r (λ t. slot C.slots t (length es)) ex → exactly r vs ≡ Some vs → To M 0 1 (st X (l ++ ex) (vs ++ s) (keep false C (option_map Spilled r) es k) g co) (st X (l ++ stored r (λ t. slot C.slots t (length es)) vs ex) (vs ++ s) k g co)
     kept_to ex None es [] s k p e = weaken (still _) (omega arith) (omega arith)
     kept_to ex None es (v ∷ vs) s k p e = absurd (cc)
     kept_to ex (Some t) es [] s k p e = absurd (cc)
-    kept_to ex (Some t) es (v ∷ []) s k p e = weaken (added_tee ex (slot t (length es)) t v p (same_type_is (type_of v) t (if_same (same_type (type_of v) t) (v ∷ []) (v ∷ []) e).0)) (omega arith) (omega arith)
+    kept_to ex (Some t) es (v ∷ []) s k p e = weaken (added_tee ex (slot C.slots t (length es)) t v p (same_type_is (type_of v) t (if_same (same_type (type_of v) t) (v ∷ []) (v ∷ []) e).0)) (omega arith) (omega arith)
     kept_to ex (Some t) es (v ∷ w ∷ vs) s k p e = absurd (cc)
 
     -- a result comes back from its slot
-    pub reload_to : {X : Shell} {g : World} {co : List CollectorCall} (ex : List Value) (r : Option ValType) (es : List Place) (vs s : List Value) (k : Nodes) → HasPlace r (λ t. slot t (length es)) ex → exactly r vs ≡ Some vs → To M 0 1 (st X (l ++ stored r (λ t. slot t (length es)) vs ex) s (reload C r es k) g co) (st X (l ++ stored r (λ t. slot t (length es)) vs ex) (vs ++ s) k g co)
+    pub reload_to : {X : Shell} {g : World} {co : List CollectorCall} (ex : List Value) (r : Option ValType) (es : List Place) (vs s : List Value) (k : Nodes) → HasPlace r (λ t. slot C.slots t (length es)) ex → exactly r vs ≡ Some vs → To M 0 1 (st X (l ++ stored r (λ t. slot C.slots t (length es)) vs ex) s (reload C r es k) g co) (st X (l ++ stored r (λ t. slot C.slots t (length es)) vs ex) (vs ++ s) k g co)
     reload_to ex None es [] s k p e = weaken (still _) (omega arith) (omega arith)
     reload_to ex None es (v ∷ vs) s k p e = absurd (cc)
     reload_to ex (Some t) es [] s k p e = absurd (cc)
-    reload_to ex (Some t) es (v ∷ []) s k p e = weaken (added_get (slice_set ex (slot t (length es)) v) (slot t (length es)) v (slice_get-put_same ex (slot t (length es)) t v p)) (omega arith) (omega arith)
+    reload_to ex (Some t) es (v ∷ []) s k p e = weaken (added_get (slice_set ex (slot C.slots t (length es)) v) (slot C.slots t (length es)) v (slice_get-put_same ex (slot C.slots t (length es)) t v p)) (omega arith) (omega arith)
     reload_to ex (Some t) es (v ∷ w ∷ vs) s k p e = absurd (cc)

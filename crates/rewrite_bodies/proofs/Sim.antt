@@ -18,7 +18,7 @@ use Rattle.rewrite_bodies.specs.Numbering.{mapped, flag_of, global_types}
 use Rattle.std.proofs.lemmas.List.{length-map}
 use Rattle.rewrite_bodies.specs.calls.Pieces.{if_any, keep, spill}
 use Rattle.rewrite_bodies.specs.calls.Guards.{can_trap, guard, kind}
-use Rattle.rewrite_bodies.specs.calls.Agreement.{Holds, awaits, pending, joined, t_kind, t_labels, Wit, UnderWay, FitsIn, Room, FitsLabels, FitsOpen, MemoryFits, byte_count, TellsLength, NoKind, WorldFits, FitsFrame, FitsFrames, Wrap, t_frames, with_added, flagged}
+use Rattle.rewrite_bodies.specs.calls.Agreement.{Holds, awaits, pending, joined, t_kind, t_labels, Wit, UnderWay, FitsIn, Room, FitsLabels, FitsOpen, MemoryFits, told_length, TellsLength, NoKind, WorldFits, FitsFrame, FitsFrames, Wrap, t_frames, with_added, flagged}
 use Rattle.rewrite_bodies.specs.calls.Steps.{To, Shell, st}
 use Rattle.rewrite_bodies.proofs.Run.{HasPlace, get_own, slice_get-put_same, types-slice_set, added_at, still, one_step, seq, weaken, get_to, put_to, tee_to}
 use Rattle.rewrite_bodies.specs.inner.Promises.{kind_of, verdict, Comes}
@@ -55,7 +55,7 @@ pub grown-append : (a : Option ValType) (e js : List Place) → grown a (e ++ js
 grown-append None e js = refl
 grown-append (Some t) e js = refl
 
-pub grown_fits : (C : Ctx) (a : Option ValType) (es : List Place) (ex : List Value) → types ex ≡ added C.slots → FitsIn C a es → HasPlace a (λ t. slot t (length es)) ex
+pub grown_fits : (C : Ctx) (a : Option ValType) (es : List Place) (ex : List Value) → types ex ≡ added C.slots → FitsIn C a es → HasPlace a (λ t. slot C.slots t (length es)) ex
 grown_fits C None es ex room h = tt
 grown_fits C (Some t) es ex room h = rw room (added_at C.slots (length es) t (omega (arith, h)))
 
@@ -120,11 +120,11 @@ module _ (M M' : Engine) (E : ℕ) (gl : List ValType) (W : Wrap) where
     abbrev pub Measured : Type 0
     Measured = MemoryFits g.memory × TellsLength C g0 g.memory
 
-    pub verdict_to : (ex2 : List Value) (i : Basic) (k : Nodes) (vs below : List Value) → can_trap i ≡ true → length C.locals ≡ length l → Measured → SmallOffset i → Holds l ex2 (joined ss) ops e → cut (takes i) ops ≡ parts vs below → effect i g l vs ≢ unfit → To M' 1 21 (st X (l ++ ex2) ops (guard C i es k) g0 co) (st X (l ++ ex2) (values.I32 (verdict (kind_of (effect i g l vs))) ∷ ops) k g0 co)
+    pub verdict_to : (ex2 : List Value) (i : Basic) (k : Nodes) (vs below : List Value) → can_trap i ≡ true → length C.locals ≡ length l → Measured → SmallOffset i → Holds C l ex2 (joined ss) ops e → cut (takes i) ops ≡ parts vs below → effect i g l vs ≢ unfit → To M' 1 21 (st X (l ++ ex2) ops (guard C i es k) g0 co) (st X (l ++ ex2) (values.I32 (verdict (kind_of (effect i g l vs))) ∷ ops) k g0 co)
     verdict_to ex2 i k vs below t size mf so h c nw = (guard_to M' C l size ops X k g0 g co ex2 (joined ss) e ops vs below i mf.1 mf.0 so t h c nw).0
 
     -- the kind of a trap, inside the arm
-    pub kind_to : (Y : Shell) (i : Basic) (j : ℕ) (k : Nodes) (vs below : List Value) → can_trap i ≡ true → length C.locals ≡ length l → Measured → SmallOffset i → Holds l ex (joined ss) ops e → cut (takes i) ops ≡ parts vs below → effect i g l vs ≢ unfit → kind_of (effect i g l vs) ≡ suc j → To M' 1 5 (st Y (l ++ ex) [] (kind C i es k) g0 co) (st Y (l ++ ex) (values.I32 (suc j) ∷ []) k g0 co)
+    pub kind_to : (Y : Shell) (i : Basic) (j : ℕ) (k : Nodes) (vs below : List Value) → can_trap i ≡ true → length C.locals ≡ length l → Measured → SmallOffset i → Holds C l ex (joined ss) ops e → cut (takes i) ops ≡ parts vs below → effect i g l vs ≢ unfit → kind_of (effect i g l vs) ≡ suc j → To M' 1 5 (st Y (l ++ ex) [] (kind C i es k) g0 co) (st Y (l ++ ex) (values.I32 (suc j) ∷ []) k g0 co)
     kind_to Y i j k vs below t size mf so h c nw is = (guard_to M' C l size [] Y k g0 g co ex (joined ss) e ops vs below i mf.1 mf.0 so t h c nw).1 j is
 
     -- the number of its landing, and the added locals behind a guard
@@ -144,13 +144,13 @@ module _ (M M' : Engine) (E : ℕ) (gl : List ValType) (W : Wrap) where
     open_behind true i o L' Ls' e' ss' low h = open_marked (number o i) C o l ex L' Ls' e' ss' low h
 
     -- a guard that finds no trap
-    checked_to : (q : Option ℕ) (i : Basic) (o : ℕ) (k : Nodes) (vs below : List Value) → types ex ≡ added C.slots → can_trap i ≡ true → length C.locals ≡ length l → Measured → SmallOffset i → Holds l (marked q C o ex) (joined ss) ops e → cut (takes i) ops ≡ parts vs below → effect i g l vs ≢ unfit → kind_of (effect i g l vs) ≡ 0 → To M' 0 30 (st X (l ++ ex) ops (checked q C ls es o (guard C i es) (kind C i es) k) g0 co) (st X (l ++ marked q C o ex) ops k g0 co)
+    checked_to : (q : Option ℕ) (i : Basic) (o : ℕ) (k : Nodes) (vs below : List Value) → types ex ≡ added C.slots → can_trap i ≡ true → length C.locals ≡ length l → Measured → SmallOffset i → Holds C l (marked q C o ex) (joined ss) ops e → cut (takes i) ops ≡ parts vs below → effect i g l vs ≢ unfit → kind_of (effect i g l vs) ≡ 0 → To M' 0 30 (st X (l ++ ex) ops (checked q C ls es o (guard C i es) (kind C i es) k) g0 co) (st X (l ++ marked q C o ex) ops k g0 co)
     checked_to None i o k vs below room t size mf so h c nw z =
         weaken M' (seq M' (rw z at (verdict_to ex i (tested C ls es o (kind C i es) k) vs below t size mf so h c nw)) (if_zero_to M')) (omega arith) (omega arith)
     checked_to (Some n) i o k vs below room t size mf so h c nw z =
         weaken M' (seq M' (mark_to M' C l size o ex room) (seq M' (rw z at (verdict_to (marked (Some n) C o ex) i (jump 0 (BrIf (ls + n)) k) vs below t size mf so h c nw)) (br_if_down M'))) (omega arith) (omega arith)
 
-    guarded_to : (i : Basic) (b : Bool) (o : ℕ) (k : Nodes) (vs below : List Value) → types ex ≡ added C.slots → (b ≡ true → can_trap i ≡ true) → length C.locals ≡ length l → Measured → SmallOffset i → (b ≡ true → Holds l (behind_guard b i o) (joined ss) ops e) → cut (takes i) ops ≡ parts vs below → effect i g l vs ≢ unfit → kind_of (effect i g l vs) ≡ 0 → To M' 0 30 (st X (l ++ ex) ops (guarded b C ls es o i k) g0 co) (st X (l ++ behind_guard b i o) ops k g0 co)
+    guarded_to : (i : Basic) (b : Bool) (o : ℕ) (k : Nodes) (vs below : List Value) → types ex ≡ added C.slots → (b ≡ true → can_trap i ≡ true) → length C.locals ≡ length l → Measured → SmallOffset i → (b ≡ true → Holds C l (behind_guard b i o) (joined ss) ops e) → cut (takes i) ops ≡ parts vs below → effect i g l vs ≢ unfit → kind_of (effect i g l vs) ≡ 0 → To M' 0 30 (st X (l ++ ex) ops (guarded b C ls es o i k) g0 co) (st X (l ++ behind_guard b i o) ops k g0 co)
     guarded_to i false o k vs below room t size mf so h c nw z = weaken M' (still M' _) (omega arith) (omega arith)
     guarded_to i true o k vs below room t size mf so h c nw z = checked_to (number o i) i o k vs below room (t refl) size mf so (h refl) c nw z
 
@@ -181,18 +181,18 @@ module _ (M M' : Engine) (E : ℕ) (gl : List ValType) (W : Wrap) where
         let p0 = passes C (basic o i rest) in
         let h : FitsOpen C l exm None (label ops (basic o i rest) en kd ∷ Ls) (e ∷ ss) = open_behind (needs C o i) i o (label ops (basic o i rest) en kd) Ls e ss low f.labels in
         let size = len_of l C.locals f.size in
-        let lh = less_but p0 l exm (takes i) (joined ss) e ops vs below (passes_some C o i rest) h.0 c in
+        let lh = less_but C p0 l exm (takes i) (joined ss) e ops vs below (passes_some C o i rest) h.0 c in
         let e2 = lh.0 in
         let r1 = result_type C es i in
         let fl = flag_len C g (wf.globals ∙ sym f.flag) in
-        let bs = values.I32 0 ∷ values.I64 (byte_count g.memory) ∷ [] in
-        let fr = subst (λ z. Rel M gl r1 (can_trap i) l exm bs z (effect i g0 (l ++ exm) vs)) p (framed M gl C es l g exm bs f.size wf (sym f.flag) i vs (match_but p0 l exm (takes i) (joined ss) e ops vs below (passes_some C o i rest) h.0 c)) in
+        let bs = values.I32 0 ∷ values.I64 (told_length g.memory) ∷ [] in
+        let fr = subst (λ z. Rel M gl r1 (can_trap i) l exm bs z (effect i g0 (l ++ exm) vs)) p (framed M gl C es l g exm bs f.size wf (sym f.flag) i vs (match_but C p0 l exm (takes i) (joined ss) e ops vs below (passes_some C o i rest) h.0 c)) in
         let hb : FitsLabels C l exm r1 (label below rest en kd ∷ Ls) (e2 ∷ ss) = (lh.2, subst (FitsIn C r1) lh.1 rm.1, subst (λ z. Room C (grown r1 z) rest) lh.1 rm.2, h.3, h.4) in
         let pass = passes C rest in
         let hs = arrived pass C l exm r1 (label below rest en kd) Ls e2 ss ws' refl roomm fr.3 hb in
         let k1 = rewrite C ls (grown r1 (e2 ++ joined ss)) rest in
         let pl = grown_fits C r1 (e2 ++ joined ss) exm roomm hb.1 in
-        let ex2 = stored_unless pass r1 (λ t. slot t (length (e2 ++ joined ss))) ws' exm in
+        let ex2 = stored_unless pass r1 (λ t. slot C.slots t (length (e2 ++ joined ss))) ws' exm in
         let kept = keep pass C (option_map Spilled r1) (e2 ++ joined ss) k1 in
         let behind = lengthened (grows i) C kept in
         let code = basic 0 i behind in
@@ -200,11 +200,11 @@ module _ (M M' : Engine) (E : ℕ) (gl : List ValType) (W : Wrap) where
         let g1 = flagged M g' (values.I32 0) in
         let s0 : To M' 0 30 (st X (l ++ ex) ops (guarded (needs C o i) C ls es o i code) g0 co) (st X (l ++ exm) ops code g0 co) = guarded_to i (needs C o i) o code vs below f.room (needs_trap C o i) size (wf.memory, tells_length M C g (values.I32 0) fl) rm.0 (λ n. (kept_all C l exm (label ops (basic o i rest) en kd) Ls e ss (needs_all C o i rest n) h).0) c (λ n. cc) (ap kind_of p) in
         let s1 : To M' 1 1 (st X (l ++ exm) ops code g0 co) (st X (l' ++ exm) (ws' ++ below) behind gm co) = step_plain M' i vs below (l' ++ exm) gm ws' (ws' ++ below) c fr.0 refl in
-        let s1b : To M' 0 5 (st X (l' ++ exm) (ws' ++ below) behind gm co) (st X (l' ++ exm) (ws' ++ below) kept g1 co) = lengthened_to M' M C.source X (l' ++ exm) (ws' ++ below) kept g' co (values.I32 0) (flag_len C g' (fr.2.globals ∙ sym f.flag)) C refl i g l l' vs ws' p fr.2.memory in
+        let s1b : To M' 0 7 (st X (l' ++ exm) (ws' ++ below) behind gm co) (st X (l' ++ exm) (ws' ++ below) kept g1 co) = lengthened_to M' M C.source X (l' ++ exm) (ws' ++ below) kept g' co (values.I32 0) (flag_len C g' (fr.2.globals ∙ sym f.flag)) C refl i g l l' vs ws' p fr.2.memory in
         let s2 : To M' 0 1 (st X (l' ++ exm) (ws' ++ below) kept g1 co) (st X (l' ++ ex2) (ws' ++ below) k1 g1 co) = kept_unless M' C l' (len_of l' C.locals (fr.1 ∙ f.size)) pass exm r1 (e2 ++ joined ss) ws' below k1 pl fr.3 in
         let all : To M' 1 E (st X (l ++ ex) ops (guarded (needs C o i) C ls es o i code) g0 co) (st X (l' ++ ex2) (ws' ++ below) k1 g1 co) = weaken M' (seq M' s0 (seq M' s1 (seq M' s1b s2))) (omega arith) (omega (arith, f.small)) in (
           wit C ex2 (grown r1 e2 ∷ ss) ∷ ws,
-          (fr.2, (refit l' (label (ws' ++ below) rest en kd ∷ Ls) ex2 (grown r1 e2 ∷ ss) None cl f fr.1 (types_unless pass r1 (λ t. slot t (length (e2 ++ joined ss))) ws' exm pl fr.3 ∙ te) (subst (λ z. FitsOpen C z ex2 None (label (ws' ++ below) rest en kd ∷ Ls) (grown r1 e2 ∷ ss)) (sym lsame) hs), fs)),
+          (fr.2, (refit l' (label (ws' ++ below) rest en kd ∷ Ls) ex2 (grown r1 e2 ∷ ss) None cl f fr.1 (types_unless pass r1 (λ t. slot C.slots t (length (e2 ++ joined ss))) ws' exm pl fr.3 ∙ te) (subst (λ z. FitsOpen C z ex2 None (label (ws' ++ below) rest en kd ∷ Ls) (grown r1 e2 ∷ ss)) (sym lsame) hs), fs)),
           subst₂ (λ a b. To M' 1 E (st X (l ++ ex) ops (guarded (needs C o i) C ls es o i (basic 0 i (lengthened (grows i) C (keep (passes C rest) C (option_map Spilled r1) a (rewrite C ls (grown r1 a) rest))))) g0 co) (st X (l' ++ ex2) (ws' ++ below) (rewrite C ls b rest) g1 co)) (sym lh.1) (grown-append r1 e2 (joined ss)) all,
         )
 
@@ -212,7 +212,7 @@ module _ (M M' : Engine) (E : ℕ) (gl : List ValType) (W : Wrap) where
     pub push_sim : (o : ℕ) (n : Value) (rest : Nodes) → FitsFrame M E gl None (F (basic o (Const n) rest)) w → FitsFrames M E gl W.result r Fs ws → WorldFits M gl g → Comes M M' E gl W (tgt M W C ex e ss ws r l ops kd Ls Fs g co (basic o (Const n) rest)) (next (config (frame ix r cl l (label (n ∷ ops) rest en kd ∷ Ls) ∷ Fs) g co))
     push_sim o n rest f fs wf =
         let h = f.labels in
-        (wit C ex ((Known n ∷ e) ∷ ss) ∷ ws, (wf, (refit l (label (n ∷ ops) rest en kd ∷ Ls) ex ((Known n ∷ e) ∷ ss) None cl f refl refl (loosened (passes C rest) l ex (joined ss) (Known n ∷ e) (n ∷ ops) (refl, h.0), tt, h.2.3, h.3, h.4), fs)), weaken M' (one_step M' _ _ refl) (omega arith) (omega (arith, f.small)))
+        (wit C ex ((Known n ∷ e) ∷ ss) ∷ ws, (wf, (refit l (label (n ∷ ops) rest en kd ∷ Ls) ex ((Known n ∷ e) ∷ ss) None cl f refl refl (loosened C (passes C rest) l ex (joined ss) (Known n ∷ e) (n ∷ ops) (refl, h.0), tt, h.2.3, h.3, h.4), fs)), weaken M' (one_step M' _ _ refl) (omega arith) (omega (arith, f.small)))
 
     copied_sim : (o x : ℕ) (v : Value) (rest : Nodes) → slice_get l x ≡ Some v → FitsFrame M E gl None (F (basic o (LocalGet x) rest)) w → FitsFrames M E gl W.result r Fs ws → WorldFits M gl g → Comes M M' E gl W (tgt M W C ex e ss ws r l ops kd Ls Fs g co (basic o (LocalGet x) rest)) (next (config (frame ix r cl l (label (v ∷ ops) rest en kd ∷ Ls) ∷ Fs) g co))
     copied_sim o x v rest at f fs wf =
@@ -222,7 +222,7 @@ module _ (M M' : Engine) (E : ℕ) (gl : List ValType) (W : Wrap) where
         let rm : Room C (p ∷ es) rest = subst (λ z. Room C (pushed (option_map (λ t. Copied t x) z) es) rest) own h.2.3 in
         let s1 : To M' 1 1 (st X (l ++ ex) ops (basic 0 (LocalGet x) (rewrite C ls (p ∷ es) rest)) g0 co) (st X (l ++ ex) (v ∷ ops) (rewrite C ls (p ∷ es) rest) g0 co) = get_to M' x v (get_own l ex x v at) in (
           wit C ex ((p ∷ e) ∷ ss) ∷ ws,
-          (wf, (refit l (label (v ∷ ops) rest en kd ∷ Ls) ex ((p ∷ e) ∷ ss) None cl f refl refl (loosened (passes C rest) l ex (joined ss) (p ∷ e) (v ∷ ops) ((at, refl), h.0), tt, rm, h.3, h.4), fs)),
+          (wf, (refit l (label (v ∷ ops) rest en kd ∷ Ls) ex ((p ∷ e) ∷ ss) None cl f refl refl (loosened C (passes C rest) l ex (joined ss) (p ∷ e) (v ∷ ops) ((at, refl), h.0), tt, rm, h.3, h.4), fs)),
           subst (λ z. To M' 1 E (st X (l ++ ex) ops (basic 0 (LocalGet x) (keep (passes C rest) C (option_map (λ t. Copied t x) z) es (rewrite C ls (pushed (option_map (λ t. Copied t x) z) es) rest))) g0 co) (st X (l ++ ex) (v ∷ ops) (rewrite C ls (p ∷ es) rest) g0 co)) (sym own) (weaken M' s1 (omega arith) (omega (arith, f.small))),
         )
 
@@ -243,15 +243,15 @@ module _ (M M' : Engine) (E : ℕ) (gl : List ValType) (W : Wrap) where
         let code = λ (z : List Place). block 0 a (rewrite C (suc ls) z inner) 0 (with_result C a z (passes C rest) (λ es'. rewrite C ls es' rest)) in
         let s1 = spill_to M' C l (len_of l C.locals f.size) X ops g0 co ex (λ x. true) js e ops (code (u ++ js)) f.room h.2.0 fj h.0 in
         let ex1 = s1.0 in
-        let low : 2 * length js ≤ 2 * length js = omega arith in
-        let outer = fits_within C [] ex ex1 (2 * length js) (2 * length es) (awaits (pending kd)) Ls ss s1.2 low h.4 in
-        let own = fixed_holds l ex1 js u ops (fixed_under e) s1.3 in
+        let low : length js ≤ length js = omega arith in
+        let outer = fits_within C [] ex ex1 (length js) (length es) (awaits (pending kd)) Ls ss s1.2 low h.4 in
+        let own = fixed_holds C l ex1 js u ops (fixed_under e) s1.3 in
         let inner_ = rewrite C (suc ls) (u ++ js) inner in
         let Y : Shell = record { idx = X.idx; result = X.result; kind = leaves a; below = label ops (with_result C a (u ++ js) (passes C rest) (λ es'. rewrite C ls es' rest)) 0 X.kind ∷ X.below; frames = X.frames } in
         let s2 : To M' 1 1 (st X (l ++ ex1) ops (code (u ++ js)) g0 co) (st Y (l ++ ex1) [] inner_ g0 co) = one_step M' _ _ refl in
         let few : length e ≤ C.slots = omega (arith, length-append e js, h.2.0) in (
           wit C ex1 ([] ∷ u ∷ ss) ∷ ws,
-          (wf, (refit l _ ex1 ([] ∷ u ∷ ss) None cl f refl s1.1 (loosened (passes C inner) l ex1 (u ++ js) [] [] tt, tt, subst (λ z. Room C z inner) sp h.2.1, tt, (own, subst (FitsIn C a) sp h.2.2, subst (λ z. Room C (grown a z) rest) sp h.2.3, h.3, outer)), fs)),
+          (wf, (refit l _ ex1 ([] ∷ u ∷ ss) None cl f refl s1.1 (loosened C (passes C inner) l ex1 (u ++ js) [] [] tt, tt, subst (λ z. Room C z inner) sp h.2.1, tt, (own, subst (FitsIn C a) sp h.2.2, subst (λ z. Room C (grown a z) rest) sp h.2.3, h.3, outer)), fs)),
           subst (λ z. To M' 1 E (st X (l ++ ex) ops (spill C (λ x. true) es (code z)) g0 co) (st Y (l ++ ex1) [] inner_ g0 co)) (sym sp) (weaken M' (seq M' s1.4 s2) (omega arith) (omega (arith, f.small, few))),
         )
 
@@ -265,22 +265,22 @@ module _ (M M' : Engine) (E : ℕ) (gl : List ValType) (W : Wrap) where
         let code = λ (z : List Place). loop 0 a (rewrite C (suc ls) z inner) 0 (with_result C a z (passes C rest) (λ es'. rewrite C ls es' rest)) in
         let s1 = spill_to M' C l (len_of l C.locals f.size) X ops g0 co ex (λ x. true) js e ops (code (u ++ js)) f.room h.2.0 fj h.0 in
         let ex1 = s1.0 in
-        let low : 2 * length js ≤ 2 * length js = omega arith in
-        let outer = fits_within C [] ex ex1 (2 * length js) (2 * length es) (awaits (pending kd)) Ls ss s1.2 low h.4 in
-        let own = fixed_holds l ex1 js u ops (fixed_under e) s1.3 in
+        let low : length js ≤ length js = omega arith in
+        let outer = fits_within C [] ex ex1 (length js) (length es) (awaits (pending kd)) Ls ss s1.2 low h.4 in
+        let own = fixed_holds C l ex1 js u ops (fixed_under e) s1.3 in
         let inner_ = rewrite C (suc ls) (u ++ js) inner in
         let Y : Shell = record { idx = X.idx; result = X.result; kind = again 0 a inner_ 0; below = label ops (with_result C a (u ++ js) (passes C rest) (λ es'. rewrite C ls es' rest)) 0 X.kind ∷ X.below; frames = X.frames } in
         let s2 : To M' 1 1 (st X (l ++ ex1) ops (code (u ++ js)) g0 co) (st Y (l ++ ex1) [] inner_ g0 co) = one_step M' _ _ refl in
         let few : length e ≤ C.slots = omega (arith, length-append e js, h.2.0) in
         let lowu : length (u ++ js) ≤ C.slots = omega (arith, length-append e js, length-append u js, without_length (λ x. true) e, h.2.0) in (
           wit C ex1 ([] ∷ u ∷ ss) ∷ ws,
-          (wf, (refit l _ ex1 ([] ∷ u ∷ ss) None cl f refl s1.1 (loosened (passes C inner) l ex1 (u ++ js) [] [] tt, tt, subst (λ z. Room C z inner) sp h.2.1, (lowu, subst (λ z. Room C z inner) sp h.2.1), (own, subst (FitsIn C a) sp h.2.2, subst (λ z. Room C (grown a z) rest) sp h.2.3, h.3, outer)), fs)),
+          (wf, (refit l _ ex1 ([] ∷ u ∷ ss) None cl f refl s1.1 (loosened C (passes C inner) l ex1 (u ++ js) [] [] tt, tt, subst (λ z. Room C z inner) sp h.2.1, (lowu, subst (λ z. Room C z inner) sp h.2.1), (own, subst (FitsIn C a) sp h.2.2, subst (λ z. Room C (grown a z) rest) sp h.2.3, h.3, outer)), fs)),
           subst (λ z. To M' 1 E (st X (l ++ ex) ops (spill C (λ x. true) es (code z)) g0 co) (st Y (l ++ ex1) [] inner_ g0 co)) (sym sp) (weaken M' (seq M' s1.4 s2) (omega arith) (omega (arith, f.small, few))),
         )
 
     -- a local is written, or kept and written
-    set_holds : (o x : ℕ) (i : Basic) (v : Value) (e2 : List Place) (ops2 : List Value) (rest : Nodes) (kept : Nodes → Nodes) → FitsFrame M E gl None (F (basic o i rest)) w → length (e2 ++ joined ss) ≤ C.slots → Holds l ex (joined ss) ops2 e2 →
-        (ex1 : List Value) × (types ex1 ≡ types ex) × Holds (slice_set l x v) ex1 (joined ss) ops2 (without (λ y. x == y) e2) × FitsLabels C [] ex1 (awaits (pending kd)) Ls ss × To M' 0 (2 * length e2) (st X (l ++ ex) ops (spill C (λ y. x == y) (e2 ++ joined ss) (basic 0 i (kept (rewrite C ls (without (λ y. x == y) e2 ++ joined ss) rest)))) g0 co) (st X (l ++ ex1) ops (basic 0 i (kept (rewrite C ls (without (λ y. x == y) e2 ++ joined ss) rest))) g0 co)
+    set_holds : (o x : ℕ) (i : Basic) (v : Value) (e2 : List Place) (ops2 : List Value) (rest : Nodes) (kept : Nodes → Nodes) → FitsFrame M E gl None (F (basic o i rest)) w → length (e2 ++ joined ss) ≤ C.slots → Holds C l ex (joined ss) ops2 e2 →
+        (ex1 : List Value) × (types ex1 ≡ types ex) × Holds C (slice_set l x v) ex1 (joined ss) ops2 (without (λ y. x == y) e2) × FitsLabels C [] ex1 (awaits (pending kd)) Ls ss × To M' 0 (2 * length e2) (st X (l ++ ex) ops (spill C (λ y. x == y) (e2 ++ joined ss) (basic 0 i (kept (rewrite C ls (without (λ y. x == y) e2 ++ joined ss) rest)))) g0 co) (st X (l ++ ex1) ops (basic 0 i (kept (rewrite C ls (without (λ y. x == y) e2 ++ joined ss) rest))) g0 co)
     set_holds o x i v e2 ops2 rest kept f low hd =
         let h = f.labels in
         let js = joined ss in
@@ -288,8 +288,8 @@ module _ (M M' : Engine) (E : ℕ) (gl : List ValType) (W : Wrap) where
         let fj = labels_fixed C ex (awaits (pending kd)) Ls ss h.4 in
         let code = basic 0 i (kept (rewrite C ls (without these e2 ++ js) rest)) in
         let s1 = spill_to M' C l (len_of l C.locals f.size) X ops g0 co ex these js e2 ops2 code f.room low fj hd in
-        let same : 2 * length js ≤ 2 * length js = omega arith in
-        (s1.0, s1.1, holds_set l s1.0 js e2 ops2 x v s1.3, fits_within C [] ex s1.0 (2 * length js) (2 * length (e2 ++ js)) (awaits (pending kd)) Ls ss s1.2 same h.4, s1.4)
+        let same : length js ≤ length js = omega arith in
+        (s1.0, s1.1, holds_set C l s1.0 js e2 ops2 x v s1.3, fits_within C [] ex s1.0 (length js) (length (e2 ++ js)) (awaits (pending kd)) Ls ss s1.2 same h.4, s1.4)
 
   -- one operand is on top
   module _ (C : Ctx) (ex : List Value) (e1 : Place) (e : List Place) (ss : List (List Place)) (ws : List Wit) (ix cl : ℕ) (r : Option ValType) (l : List Value) (v : Value) (ops : List Value) (en : ℕ) (kd : Kind) (Ls : List Label) (Fs : List Frame) (g : World) (co : List CollectorCall) where
@@ -328,7 +328,7 @@ module _ (M M' : Engine) (E : ℕ) (gl : List ValType) (W : Wrap) where
         let s2 : To M' 1 1 (st Xv (l ++ ex1) (v ∷ ops) (basic 0 (LocalSet x) k1) gv co) (st Xv (l' ++ ex1) ops k1 gv co) =
         subst (λ z. To M' 1 1 (st Xv (l ++ ex1) (v ∷ ops) (basic 0 (LocalSet x) k1) gv co) (st Xv z ops k1 gv co)) (set-append_left l ex1 x v old at) (put_to M' x v old (get_own l ex1 x old at) ty) in (
           wit C ex1 (without these e ∷ ss) ∷ ws,
-          (wf, (refit l' (label ops rest en kd ∷ Ls) ex1 (without these e ∷ ss) None cl f tl s1.1 (loosened (passes C rest) l' ex1 js (without these e) ops s1.2, tt, subst (λ z. Room C z rest) sp h.2.3, h.3, s1.3), fs)),
+          (wf, (refit l' (label ops rest en kd ∷ Ls) ex1 (without these e ∷ ss) None cl f tl s1.1 (loosened C (passes C rest) l' ex1 js (without these e) ops s1.2, tt, subst (λ z. Room C z rest) sp h.2.3, h.3, s1.3), fs)),
           subst (λ z. To M' 1 E (st Xv (l ++ ex) (v ∷ ops) (spill C these esv (basic 0 (LocalSet x) (rewrite C dv z rest))) gv co) (st Xv (l' ++ ex1) ops k1 gv co)) (sym sp) (weaken M' (seq M' s1.4 s2) (omega arith) (omega (arith, f.small, few))),
         )
 
@@ -347,9 +347,9 @@ module _ (M M' : Engine) (E : ℕ) (gl : List ValType) (W : Wrap) where
         let k1 = rewrite C dv (p ∷ (without these e ++ js)) rest in
         let s1 = spill_to M' C l (len_of l C.locals f.size) Xv (v ∷ ops) gv co ex these js e ops (basic 0 (LocalTee x) k1) f.room low fj h.0.1 in
         let ex1 = s1.0 in
-        let same : 2 * length js ≤ 2 * length js = omega arith in
-        let outer = fits_within C [] ex ex1 (2 * length js) (2 * length (e ++ js)) (awaits (pending kd)) Ls ss s1.2 same h.4 in
-        let own_holds = holds_set l ex1 js e ops x v s1.3 in
+        let same : length js ≤ length js = omega arith in
+        let outer = fits_within C [] ex ex1 (length js) (length (e ++ js)) (awaits (pending kd)) Ls ss s1.2 same h.4 in
+        let own_holds = holds_set C l ex1 js e ops x v s1.3 in
         let l' = slice_set l x v in
         let tl : types l' ≡ types l = types-slice_set l x (type_of old) v (types_get l x old at) (sym ty) in
         let there : slice_get l' x ≡ Some v = slice_get-put_same l x (type_of old) v (types_get l x old at) in
@@ -357,7 +357,7 @@ module _ (M M' : Engine) (E : ℕ) (gl : List ValType) (W : Wrap) where
         subst (λ z. To M' 1 1 (st Xv (l ++ ex1) (v ∷ ops) (basic 0 (LocalTee x) k1) gv co) (st Xv z (v ∷ ops) k1 gv co)) (set-append_left l ex1 x v old at) (tee_to M' x v old (get_own l ex1 x old at) ty) in
         let rm : Room C (p ∷ (without these e ++ js)) rest = subst (λ z. Room C (p ∷ z) rest) sp (subst (λ q. Room C (pushed (option_map (λ t. Copied t x) q) (without these esv)) rest) own h.2.3) in (
           wit C ex1 ((p ∷ without these e) ∷ ss) ∷ ws,
-          (wf, (refit l' (label (v ∷ ops) rest en kd ∷ Ls) ex1 ((p ∷ without these e) ∷ ss) None cl f tl s1.1 (loosened (passes C rest) l' ex1 js (p ∷ without these e) (v ∷ ops) ((there, refl), own_holds), tt, rm, h.3, outer), fs)),
+          (wf, (refit l' (label (v ∷ ops) rest en kd ∷ Ls) ex1 ((p ∷ without these e) ∷ ss) None cl f tl s1.1 (loosened C (passes C rest) l' ex1 js (p ∷ without these e) (v ∷ ops) ((there, refl), own_holds), tt, rm, h.3, outer), fs)),
           subst₂ (λ q z. To M' 1 E (st Xv (l ++ ex) (v ∷ ops) (code q z) gv co) (st Xv (l' ++ ex1) (v ∷ ops) k1 gv co)) (sym own) (sym sp) (weaken M' (seq M' s1.4 s2) (omega arith) (omega (arith, f.small, few))),
         )
 
@@ -377,13 +377,13 @@ module _ (M M' : Engine) (E : ℕ) (gl : List ValType) (W : Wrap) where
         let code = λ (z : List Place). choose 0 a (rewrite C (suc dv) z x) (option_map (λ at. 0) ea) (rewrite C (suc dv) z y) 0 (behind z) in
         let s1 = spill_to M' C l (len_of l C.locals f.size) Xv (v ∷ ops) gv co ex (λ x. true) js e ops (code (u ++ js)) f.room low fj h.0.1 in
         let ex1 = s1.0 in
-        let same : 2 * length js ≤ 2 * length js = omega arith in
-        let outer = fits_within C [] ex ex1 (2 * length js) (2 * length esv) (awaits (pending kd)) Ls ss s1.2 same h.4 in
-        let own = fixed_holds l ex1 js u ops (fixed_under e) s1.3 in
+        let same : length js ≤ length js = omega arith in
+        let outer = fits_within C [] ex ex1 (length js) (length esv) (awaits (pending kd)) Ls ss s1.2 same h.4 in
+        let own = fixed_holds C l ex1 js u ops (fixed_under e) s1.3 in
         let Y : Shell = record { idx = Xv.idx; result = Xv.result; kind = leaves a; below = label ops (behind (u ++ js)) 0 Xv.kind ∷ Xv.below; frames = Xv.frames } in
         let s2 : To M' 1 1 (st Xv (l ++ ex1) (v ∷ ops) (code (u ++ js)) gv co) (st Y (l ++ ex1) [] (rewrite C (suc dv) (u ++ js) arm) gv co) = enters ex1 (u ++ js) (behind (u ++ js)) in (
           wit C ex1 ([] ∷ u ∷ ss) ∷ ws,
-          (wf, (refit l _ ex1 ([] ∷ u ∷ ss) None cl f refl s1.1 (loosened (passes C arm) l ex1 (u ++ js) [] [] tt, tt, subst (λ z. Room C z arm) sp rm, tt, (own, subst (FitsIn C a) sp h.2.3, subst (λ z. Room C (grown a z) rest) sp h.2.4, h.3, outer)), fs)),
+          (wf, (refit l _ ex1 ([] ∷ u ∷ ss) None cl f refl s1.1 (loosened C (passes C arm) l ex1 (u ++ js) [] [] tt, tt, subst (λ z. Room C z arm) sp rm, tt, (own, subst (FitsIn C a) sp h.2.3, subst (λ z. Room C (grown a z) rest) sp h.2.4, h.3, outer)), fs)),
           subst (λ z. To M' 1 E (st Xv (l ++ ex) (v ∷ ops) (spill C (λ x. true) esv (code z)) gv co) (st Y (l ++ ex1) [] (rewrite C (suc dv) (u ++ js) arm) gv co)) (sym sp) (weaken M' (seq M' s1.4 s2) (omega arith) (omega (arith, f.small, few))),
         )
 

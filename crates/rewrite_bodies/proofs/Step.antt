@@ -18,9 +18,9 @@ use Rattle.rewrite_bodies.specs.calls.Pieces.{const, keep, set}
 use Rattle.rewrite_bodies.specs.calls.Guards.{can_trap, kind, entry_label, type_label, first_table, guard}
 use Rattle.rewrite_bodies.specs.calls.Steps.{To, Shell, st}
 use Rattle.rewrite_bodies.proofs.Run.{seq, weaken, push_to}
-use Rattle.rewrite_bodies.specs.calls.Agreement.{joined, Wit, FitsIn, Has, Room_call, Room, byte_count, WorldFits, FitsFrame, FitsFrames, FitsConfig, Wrap, flagged, image}
+use Rattle.rewrite_bodies.specs.calls.Agreement.{joined, Wit, FitsIn, Has, Room_call, Room, told_length, WorldFits, FitsFrame, FitsFrames, FitsConfig, Wrap, flagged, image}
 use Rattle.rewrite_bodies.specs.inner.Promises.{kind_of, verdict, Comes}
-use Rattle.rewrite_bodies.proofs.Parts.{Rel, framed, place_of, fits_put}
+use Rattle.rewrite_bodies.proofs.Parts.{Rel, framed, place_of, fits_offset}
 use Rattle.rewrite_bodies.proofs.Passing.{needs_all, passes_some, kept_all, match_but}
 use Rattle.rewrite_bodies.specs.calls.Standing.{Stands, After}
 use Rattle.rewrite_bodies.proofs.Sim.{refit, len_of, flag_len, shell, tgt, wit, armed, if_up_to, verdict_to, kind_to, usual_gives, push_sim, get_sim, set_sim, tee_sim, block_sim, loop_sim, if_sim, room_height}
@@ -124,7 +124,7 @@ module _ (M M' : Engine) (E : ℕ) (gl : List ValType) (W : Wrap) (S : Stands M 
     carried_trap p is pre =
         let h = kept_all C l ex LC Ls (e1 ∷ e) ss p f.labels in
         let low : length (e1 ∷ (e ++ joined ss)) ≤ C.slots = room_height C (e1 ∷ (e ++ joined ss)) (basic o i rest) h.2 in
-        let ty : type_of v ≡ place_type e1 = place_of l ex (length (e ++ joined ss)) e1 v h.0.0 in
+        let ty : type_of v ≡ place_type e1 = place_of C l ex (length (e ++ joined ss)) e1 v h.0.0 in
         let top_is : top (Some (place_type e1)) (v ∷ ops) ≡ Some (v ∷ []) = rw (ty, same_type_refl (place_type e1)) refl in
         trap_landed M M' E gl W S C ex (e1 ∷ e) ss ws ix cl r l (v ∷ ops) en kd Ls Fs g co (basic o i rest) f fs wf p t j k Found n (v ∷ []) (ops ++ all_ops Ls) is refl top_is
         (λ ex2 hk. (all_in C l ex2 None (LC ∷ Ls) ((e1 ∷ e) ∷ ss) hk).1) (omega (arith, low)) (tell-all (LC ∷ Ls) co) pre
@@ -179,8 +179,8 @@ module _ (M M' : Engine) (E : ℕ) (gl : List ValType) (W : Wrap) (S : Stands M 
     basic_trap : (vs below : List Value) (k : ℕ) → cut (takes i) ops ≡ parts vs below → effect i g l vs ≡ fails k → Comes M M' E gl W (TB (needs C o i)) (traps k (config (FB ∷ Fs) g co))
     basic_trap vs below k c p =
         let h = f.labels in
-        let bs = values.I32 0 ∷ values.I64 (byte_count g.memory) ∷ [] in
-        let tr = subst (λ z. Rel M gl (result_type C esb i) (can_trap i) l ex bs z (effect i gb (l ++ ex) vs)) p (framed M gl C esb l g ex bs f.size wf (sym f.flag) i vs (match_but (passes C (basic o i rest)) l ex (takes i) (joined ss) e ops vs below (passes_some C o i rest) h.0 c)) in
+        let bs = values.I32 0 ∷ values.I64 (told_length g.memory) ∷ [] in
+        let tr = subst (λ z. Rel M gl (result_type C esb i) (can_trap i) l ex bs z (effect i gb (l ++ ex) vs)) p (framed M gl C esb l g ex bs f.size wf (sym f.flag) i vs (match_but C (passes C (basic o i rest)) l ex (takes i) (joined ss) e ops vs below (passes_some C o i rest) h.0 c)) in
         let j = tr.1 in
         let is : kind_of (effect i g l vs) ≡ suc j = ap kind_of p ∙ tr.2 in
         by_need (needs C o i) refl tr.0 (λ n. subst (λ z. Comes M M' E gl W (TB true) (traps z (config (FB ∷ Fs) g co))) (sym tr.2) (by_number (needs_all C o i rest n) (number_in C.landings (landing_of (part_of C.locals o) i esb)) j refl tr.0 is (p ∙ ap fails tr.2)))
@@ -204,7 +204,7 @@ module _ (M M' : Engine) (E : ℕ) (gl : List ValType) (W : Wrap) (S : Stands M 
             let low : length esb ≤ C.slots = room_height C esb (basic o i rest) f.labels.2 in
             let exm = slice_set ex (offset_at C) (values.I32 o) in
             let go = jump 0 (BrIf (lsb + n)) kb in
-            let hm = fits_put C l ex None (LB ∷ Ls) (e ∷ ss) (offset_at C) (values.I32 o) (omega (arith, low)) (kept_all C l ex LB Ls e ss all_kept f.labels) in
+            let hm = fits_offset C l ex None (LB ∷ Ls) (e ∷ ss) (values.I32 o) (omega (arith, low)) (kept_all C l ex LB Ls e ss all_kept f.labels) in
             let T0 = st XB (l ++ ex) ops (const (values.I32 o) (set C (offset_at C) (guard C i esb go))) gb co in
             let v0 : To M' 2 2 T0 (st XB (l ++ exm) ops (guard C i esb go) gb co) = mark_to M' C l (len_of l C.locals f.size) o ex f.room in
             let v1 = verdict_to M M' E gl W C ex e ss ws ix cl r l ops en kd Ls Fs g co exm i go vs below ct (len_of l C.locals f.size) (wf.memory, tells_length M C g (values.I32 0) (flag_len C g (wf.globals ∙ sym f.flag))) rm.0 hm.0 c (λ n. cc) in

@@ -1,6 +1,6 @@
 -- The small pieces of rewritten code are well typed.
 use Rattle.rewrite_bodies.specs.calls.Landings.{number_of, landing_behind, part_of}
-use Rattle.std.proofs.Common.{◌≡◌, ℕ, zero, suc, ◌+◌, ◌≤◌, List, [], ◌∷◌, ◌++◌, length, map, reverse, Option, Some, None, refl, sym, ap, ◌∙◌, subst, arith, slice_get, option_map, option_to_list, Bool, true, false, if◌then◌else◌}
+use Rattle.std.proofs.Common.{◌≡◌, ℕ, zero, suc, ◌+◌, ◌≤◌, ◌==◌, List, [], ◌∷◌, ◌++◌, length, map, reverse, Option, Some, None, refl, sym, ap, ◌∙◌, subst, arith, slice_get, option_map, option_to_list, Bool, true, false, if◌then◌else◌}
 use Rattle.std.specs.Prelude.{take}
 use Rattle.wasm_syntax.specs.declared.value.ValType.{ValType}
 use Rattle.wasm_syntax.specs.declared.value.ValType.TheVariants.{I32, I64}
@@ -23,7 +23,7 @@ use Rattle.wasm_syntax.specs.Typing.{Context, Arrow, ◌⇒◌, arrow, Types}
 use Rattle.rewrite_bodies.specs.calls.Slots.{Place, Spilled, Known, Copied, place_type, Ctx, slot, kind_at, offset_at, added}
 use Rattle.rewrite_bodies.specs.Numbering.{value_import, flag_of}
 use Rattle.rewrite_bodies.specs.calls.Pieces.{get, set, const, i32, call, if_any, fetch, load, keep_slot, keep, store, reload, spill_one, spill, drops}
-use Rattle.rewrite_bodies.specs.calls.Guards.{guard_zero, guard_signed, past_end, guard_memory, range_test, guard_copy, guard_fill, kind_signed, length_of, get_length, set_length, renewed, renew}
+use Rattle.rewrite_bodies.specs.calls.Guards.{less_word, guard_zero, guard_signed, past_end, beyond_word, guard_memory, range_test, guard_copy, guard_fill, kind_signed, length_of, get_length, set_length, renewed, renew}
 use Rattle.rewrite_bodies.specs.calls.Rewrite.{hand_value, hand, hand_top, to_exit, unwind, test_flag, test_both, unwind_kind, tested, checked, get_flag, lengthened}
 use Rattle.rewrite_bodies.specs.calls.Agreement.{FitsIn}
 use Rattle.rewrite_bodies.specs.calls.Typed.{Own, AllOwn, Offers}
@@ -75,7 +75,7 @@ module _ (src : Module) (g : Global) where
   pub ok_set_length : {c : Context} {z s : List ValType} {k : Nodes} → slice_get c.module_.globals (length_of src) ≡ Some g → g.vtype ≡ I64 → g.mutable ≡ true → HasMemory c.module_.memories → Ok c z s k → Ok c z s (set_length src k)
   ok_set_length {c = c} {s = s} there type written has h =
       let e : arrow c I64 (GlobalSet (length_of src)) ≡ Some (I64 ∷ [] ⇒ []) = rw (there, written, type) refl in
-      ok_size has (ok_extend (ok_const (values.I64 16) (ok_binary I64 Shl (ok_basic s (GlobalSet (length_of src)) I64 (I64 ∷ [] ⇒ []) e h))))
+      ok_size has (ok_extend (ok_const (values.I64 16) (ok_binary I64 Shl (ok_const (values.I64 4) (ok_binary I64 Sub (ok_basic s (GlobalSet (length_of src)) I64 (I64 ∷ [] ⇒ []) e h))))))
 
   pub ok_renewed : {c : Context} {z s : List ValType} {k : Nodes} (ls : List Limits) → c.module_.memories ≡ ls → slice_get c.module_.globals (length_of src) ≡ Some g → g.vtype ≡ I64 → g.mutable ≡ true → Ok c z s k → Ok c z s (renewed ls src k)
   ok_renewed [] e there type written h = h
@@ -118,7 +118,7 @@ module _ (C : Ctx) (m : Module) (locals : List ValType) (off : Offers C m locals
   ok_tee {s = s} x t e h = ok_basic s (LocalTee (length C.locals + x)) I32 (t ∷ [] ⇒ t ∷ []) (ap (option_map (λ u. u ∷ [] ⇒ u ∷ [])) (local_is x t e)) h
 
   pub ok_fetch : {labels : List (List ValType)} {z s : List ValType} {k : Nodes} (e : Place) (h : ℕ) → h ≤ C.slots → Own C e → Ok (at labels) z (place_type e ∷ s) k → Ok (at labels) z s (fetch C e h k)
-  ok_fetch (Spilled t) h le w k = ok_get (slot t h) t (added_at C.slots h t le) k
+  ok_fetch (Spilled t) h le w k = ok_get (slot C.slots t h) t (added_at C.slots h t le) k
   ok_fetch (Known v) h le w k = ok_const v k
   ok_fetch (Copied t x) h le w k = ok_own x t w k
 
@@ -129,12 +129,12 @@ module _ (C : Ctx) (m : Module) (locals : List ValType) (off : Offers C m locals
 
   pub ok_store : {labels : List (List ValType)} {z s : List ValType} {k : Nodes} (r : Option ValType) (es : List Place) → FitsIn C r es → Ok (at labels) z s k → Ok (at labels) z (option_to_list r ++ s) (store C r es k)
   ok_store None es fit h = h
-  ok_store (Some t) es fit h = ok_set (slot t (length es)) t (added_at C.slots (length es) t (omega (arith, fit))) h
+  ok_store (Some t) es fit h = ok_set (slot C.slots t (length es)) t (added_at C.slots (length es) t (omega (arith, fit))) h
 
   -- a result is kept, or passes
   ok_keep_slot : {labels : List (List ValType)} {z : List ValType} {k : Nodes} (q : Bool) (s : List ValType) (t : ValType) (es : List Place) → FitsIn C (Some t) es → Ok (at labels) z (t ∷ s) k → Ok (at labels) z (t ∷ s) (keep_slot q C t es k)
   ok_keep_slot true s t es fit h = h
-  ok_keep_slot false s t es fit h = ok_tee (slot t (length es)) t (added_at C.slots (length es) t (omega (arith, fit))) h
+  ok_keep_slot false s t es fit h = ok_tee (slot C.slots t (length es)) t (added_at C.slots (length es) t (omega (arith, fit))) h
 
   pub ok_keep : {labels : List (List ValType)} {z : List ValType} {k : Nodes} (q : Bool) (s : List ValType) (p : Option Place) (es : List Place) → FitsIn C (option_map place_type p) es → Ok (at labels) z (option_to_list (option_map place_type p) ++ s) k → Ok (at labels) z (option_to_list (option_map place_type p) ++ s) (keep q C p es k)
   ok_keep q s None es fit h = h
@@ -148,15 +148,15 @@ module _ (C : Ctx) (m : Module) (locals : List ValType) (off : Offers C m locals
 
   pub ok_reload : {labels : List (List ValType)} {z s : List ValType} {k : Nodes} (r : Option ValType) (es : List Place) → FitsIn C r es → Ok (at labels) z (option_to_list r ++ s) k → Ok (at labels) z s (reload C r es k)
   ok_reload None es fit h = h
-  ok_reload (Some t) es fit h = ok_get (slot t (length es)) t (added_at C.slots (length es) t (omega (arith, fit))) h
+  ok_reload (Some t) es fit h = ok_get (slot C.slots t (length es)) t (added_at C.slots (length es) t (omega (arith, fit))) h
 
   pub ok_drops : {labels : List (List ValType)} {z s : List ValType} {k : Nodes} (ts : List ValType) → Ok (at labels) z s k → Ok (at labels) z (ts ++ s) (drops (length ts) k)
   ok_drops [] h = h
   ok_drops {s = s} (t ∷ ts) h = ok_basic (ts ++ s) Drop t (t ∷ [] ⇒ []) refl (ok_drops ts h)
 
   -- copies go to their slots
-  ok_spill_if : {labels : List (List ValType)} {z s : List ValType} {k : Nodes} (q : Bool) (t : ValType) (x h : ℕ) → h ≤ C.slots → slice_get C.locals x ≡ Some t → Ok (at labels) z s k → Ok (at labels) z s (if q then basic 0 (LocalGet x) (set C (slot t h) k) else k)
-  ok_spill_if true t x h le w g = ok_own x t w (ok_set (slot t h) t (added_at C.slots h t le) g)
+  ok_spill_if : {labels : List (List ValType)} {z s : List ValType} {k : Nodes} (q : Bool) (t : ValType) (x h : ℕ) → h ≤ C.slots → slice_get C.locals x ≡ Some t → Ok (at labels) z s k → Ok (at labels) z s (if q then basic 0 (LocalGet x) (set C (slot C.slots t h) k) else k)
+  ok_spill_if true t x h le w g = ok_own x t w (ok_set (slot C.slots t h) t (added_at C.slots h t le) g)
   ok_spill_if false t x h le w g = g
 
   ok_spill_one : {labels : List (List ValType)} {z s : List ValType} {k : Nodes} (these : ℕ → Bool) (e : Place) (h : ℕ) → h ≤ C.slots → Own C e → Ok (at labels) z s k → Ok (at labels) z s (spill_one C these e h k)
@@ -256,11 +256,15 @@ module _ (C : Ctx) (m : Module) (locals : List ValType) (off : Offers C m locals
   ok_lengthened true has h = ok_set_length C.source off.length_ off.length_there off.length_type off.length_mutable (has refl) h
 
   ok_past_end : {labels : List (List ValType)} {z s : List ValType} {k : Nodes} → Ok (at labels) z (I32 ∷ s) k → Ok (at labels) z (I64 ∷ s) (past_end C.source k)
-  ok_past_end h = ok_length (ok_compare I64 GtU h)
+  ok_past_end h = ok_length (ok_const (values.I64 4) (ok_binary I64 Add (ok_compare I64 GtU h)))
+
+  ok_beyond : {labels : List (List ValType)} {z s : List ValType} {k : Nodes} (q : Bool) (n : ℕ) → Ok (at labels) z (I64 ∷ s) k → Ok (at labels) z (I64 ∷ s) (beyond_word q n k)
+  ok_beyond true n h = h
+  ok_beyond false n h = ok_const (values.I64 (less_word n)) (ok_binary I64 Sub h)
 
   pub ok_guard_memory : {labels : List (List ValType)} {z s : List ValType} {k : Nodes} (a : Place) (h n : ℕ) → h ≤ C.slots → Own C a → place_type a ≡ I32 → Ok (at labels) z (I32 ∷ s) k → Ok (at labels) z s (guard_memory C a h n k)
   ok_guard_memory a h n le w e g =
-      ok_place a I32 h le w e (ok_extend (ok_length (ok_const (values.I64 n) (ok_binary I64 Sub (ok_compare I64 GtS g)))))
+      ok_place a I32 h le w e (ok_extend (ok_length (ok_beyond (n == 4) n (ok_compare I64 GtS g))))
 
   ok_range : {labels : List (List ValType)} {z s : List ValType} {k : Nodes} (a : Place) (h : ℕ) (n : Place) (hn : ℕ) → h ≤ C.slots → hn ≤ C.slots → Own C a → Own C n → place_type a ≡ I32 → place_type n ≡ I32 → Ok (at labels) z (I32 ∷ s) k → Ok (at labels) z s (range_test C a h n hn k)
   ok_range a h n hn le len wa wn ea en g = ok_place a I32 h le wa ea (ok_extend (ok_place n I32 hn len wn en (ok_extend (ok_binary I64 Add (ok_past_end g)))))

@@ -17,11 +17,11 @@ use Rattle.rewrite_bodies.specs.calls.Slots.{Place, Spilled, place_type, Landing
 use Rattle.rewrite_bodies.specs.Numbering.{mapped, value_import, frame_import, flag_of, global_types}
 use Rattle.rewrite_bodies.specs.calls.Pieces.{get, set, const, call, if_any, fetch, keep, store, reload, drops}
 use Rattle.rewrite_bodies.specs.calls.Rewrite.{hand_value, hand, hand_top, to_exit, unwind, hand_left, test_flag, test_both, passes, rewrite, hand_locals, zero_result, raise_flag, exit_code, checked, get_flag, hand_carried, landing_code}
-use Rattle.rewrite_bodies.specs.calls.Agreement.{One, Holds, awaits, pending, joined, t_kind, t_labels, Wit, UnderWay, FitsLabels, WorldFits, FitsFrame, FitsFrames, Wrap, w_frame, zero_vs, last_result, t_frames, flagged, byte_count}
+use Rattle.rewrite_bodies.specs.calls.Agreement.{One, Holds, awaits, pending, joined, t_kind, t_labels, Wit, UnderWay, FitsLabels, WorldFits, FitsFrame, FitsFrames, Wrap, w_frame, zero_vs, last_result, t_frames, flagged, told_length}
 use Rattle.rewrite_bodies.specs.calls.Steps.{Gets, To, Shell, st}
-use Rattle.rewrite_bodies.proofs.Run.{if_same, stored, stored_other, kind_no_slot, types-stored, slice_get-put_same, slice_get-put_other, types-slice_set, added_kind, added_offset, still, one_step, seq, weaken, push_to, get_to, added_get, added_set, fetch_to, store_to}
+use Rattle.rewrite_bodies.proofs.Run.{if_same, stored, stored_other, kind_no_slot, clear_slot, types-stored, slice_get-put_same, slice_get-put_other, types-slice_set, added_kind, added_offset, still, one_step, seq, weaken, push_to, get_to, added_get, added_set, fetch_to, store_to}
 use Rattle.rewrite_bodies.proofs.Passing.{stored_unless, types_unless, fits_unless, kept_unless}
-use Rattle.rewrite_bodies.proofs.Parts.{place_of, fits_put, fits_stored, step_plain}
+use Rattle.rewrite_bodies.proofs.Parts.{place_of, fits_kind, fits_offset, fits_stored, step_plain}
 use Rattle.rewrite_bodies.proofs.Copies.{fits_any}
 use Rattle.dump_write.specs.Collected.{value_call}
 use Rattle.rewrite_bodies.specs.calls.Telling.{tell_ops, tell_labels, tell_locals, tell_frame, tell_outer}
@@ -36,35 +36,35 @@ use Rattle.rewrite_bodies.specs.calls.Standing.{Speaks}
 use Rattle.wasm_laws.proofs.Progress.{same_of}
 
 -- all operands of a frame are in their places
-abbrev pub AllIn : List Value → List Value → List Value → List Place → Type 0
-AllIn l ex [] [] = Unit {0}
-AllIn l ex [] (e ∷ es) = ⊥
-AllIn l ex (v ∷ ops) [] = ⊥
-AllIn l ex (v ∷ ops) (e ∷ es) = One l ex (length es) e v × AllIn l ex ops es
+abbrev pub AllIn : Ctx → List Value → List Value → List Value → List Place → Type 0
+AllIn C l ex [] [] = Unit {0}
+AllIn C l ex [] (e ∷ es) = ⊥
+AllIn C l ex (v ∷ ops) [] = ⊥
+AllIn C l ex (v ∷ ops) (e ∷ es) = One C l ex (length es) e v × AllIn C l ex ops es
 
 abbrev pub all_ops : List Label → List Value
 all_ops [] = []
 all_ops (L ∷ Ls) = L.operands ++ all_ops Ls
 
-all_in-append : (l ex ops below : List Value) (es js : List Place) → Holds l ex js ops es → AllIn l ex below js → AllIn l ex (ops ++ below) (es ++ js)
-all_in-append l ex [] below [] js h a = a
-all_in-append l ex [] below (e ∷ es) js h a = absurd h
-all_in-append l ex (v ∷ ops) below [] js h a = absurd h
-all_in-append l ex (v ∷ ops) below (e ∷ es) js h a = (h.0, all_in-append l ex ops below es js h.1 a)
+all_in-append : (C : Ctx) (l ex ops below : List Value) (es js : List Place) → Holds C l ex js ops es → AllIn C l ex below js → AllIn C l ex (ops ++ below) (es ++ js)
+all_in-append C l ex [] below [] js h a = a
+all_in-append C l ex [] below (e ∷ es) js h a = absurd h
+all_in-append C l ex (v ∷ ops) below [] js h a = absurd h
+all_in-append C l ex (v ∷ ops) below (e ∷ es) js h a = (h.0, all_in-append C l ex ops below es js h.1 a)
 
-pub all_in : (C : Ctx) (l ex : List Value) (a : Option ValType) (Ls : List Label) (ss : List (List Place)) → FitsLabels C l ex a Ls ss → AllIn l ex (all_ops Ls) (joined ss)
+pub all_in : (C : Ctx) (l ex : List Value) (a : Option ValType) (Ls : List Label) (ss : List (List Place)) → FitsLabels C l ex a Ls ss → AllIn C l ex (all_ops Ls) (joined ss)
 all_in C l ex a [] [] h = tt
 all_in C l ex a [] (_ ∷ _) h = absurd h
 all_in C l ex a (L ∷ Ls) [] h = absurd h
 all_in C l ex a (L ∷ Ls) (e ∷ ss) h =
-    all_in-append l ex L.operands (all_ops Ls) e (joined ss) h.0 (all_in C l ex (awaits (pending L.kind)) Ls ss (fits_any C l ex (awaits (pending L.kind)) Ls ss h.4))
+    all_in-append C l ex L.operands (all_ops Ls) e (joined ss) h.0 (all_in C l ex (awaits (pending L.kind)) Ls ss (fits_any C l ex (awaits (pending L.kind)) Ls ss h.4))
 
-all_less : (l ex : List Value) (m : ℕ) (ops : List Value) (es : List Place) → AllIn l ex ops es → AllIn l ex (drop m ops) (less m es)
-all_less l ex zero ops es a = a
-all_less l ex (suc m) [] [] a = tt
-all_less l ex (suc m) [] (e ∷ es) a = absurd a
-all_less l ex (suc m) (v ∷ ops) [] a = absurd a
-all_less l ex (suc m) (v ∷ ops) (e ∷ es) a = all_less l ex m ops es a.1
+all_less : (C : Ctx) (l ex : List Value) (m : ℕ) (ops : List Value) (es : List Place) → AllIn C l ex ops es → AllIn C l ex (drop m ops) (less m es)
+all_less C l ex zero ops es a = a
+all_less C l ex (suc m) [] [] a = tt
+all_less C l ex (suc m) [] (e ∷ es) a = absurd a
+all_less C l ex (suc m) (v ∷ ops) [] a = absurd a
+all_less C l ex (suc m) (v ∷ ops) (e ∷ es) a = all_less C l ex m ops es a.1
 
 pub less_shorter : (m : ℕ) (es : List Place) → length (less m es) ≤ length es
 less_shorter zero es = omega arith
@@ -105,21 +105,21 @@ module _ (M' : Engine) (C : Ctx) (sp : Speaks M' C.source) where
 
   module _ (l : List Value) (size : length C.locals ≡ length l) where
     -- the operands in these places
-    hand_all_to : {X : Shell} {s : List Value} {g : World} {co : List CollectorCall} (ex ops : List Value) (es : List Place) (k : Nodes) → AllIn l ex ops es → To M' 0 (2 * length es) (st X (l ++ ex) s (hand C es k) g co) (st X (l ++ ex) s k g (tell_ops ops co))
+    hand_all_to : {X : Shell} {s : List Value} {g : World} {co : List CollectorCall} (ex ops : List Value) (es : List Place) (k : Nodes) → AllIn C l ex ops es → To M' 0 (2 * length es) (st X (l ++ ex) s (hand C es k) g co) (st X (l ++ ex) s k g (tell_ops ops co))
     hand_all_to ex [] [] k h = weaken M' (still M' _) (omega arith) (omega arith)
     hand_all_to ex [] (e ∷ es) k h = absurd h
     hand_all_to ex (v ∷ ops) [] k h = absurd h
     hand_all_to ex (v ∷ ops) (e ∷ es) k h =
-        weaken M' (seq M' (hand_all_to ex ops es (fetch C e (length es) (hand_value C (place_type e) k)) h.1) (seq M' (fetch_to M' C l size ex (length es) e v h.0) (value_out (place_type e) v (place_of l ex (length es) e v h.0)))) (omega arith) (omega arith)
+        weaken M' (seq M' (hand_all_to ex ops es (fetch C e (length es) (hand_value C (place_type e) k)) h.1) (seq M' (fetch_to M' C l size ex (length es) e v h.0) (value_out (place_type e) v (place_of C l ex (length es) e v h.0)))) (omega arith) (omega arith)
 
     -- the topmost ones
-    hand_top_to : {X : Shell} {g : World} {co : List CollectorCall} (ex : List Value) (m : ℕ) (ops : List Value) (es : List Place) (k : Nodes) → AllIn l ex ops es → To M' 0 (2 * (length es - length (less m es))) (st X (l ++ ex) [] (hand_top C m es k) g co) (st X (l ++ ex) [] k g (tell_ops (take m ops) co))
+    hand_top_to : {X : Shell} {g : World} {co : List CollectorCall} (ex : List Value) (m : ℕ) (ops : List Value) (es : List Place) (k : Nodes) → AllIn C l ex ops es → To M' 0 (2 * (length es - length (less m es))) (st X (l ++ ex) [] (hand_top C m es k) g co) (st X (l ++ ex) [] k g (tell_ops (take m ops) co))
     hand_top_to ex zero ops es k h = weaken M' (still M' _) (omega arith) (omega arith)
     hand_top_to ex (suc m) [] [] k h = weaken M' (still M' _) (omega arith) (omega arith)
     hand_top_to ex (suc m) [] (e ∷ es) k h = absurd h
     hand_top_to ex (suc m) (v ∷ ops) [] k h = absurd h
     hand_top_to ex (suc m) (v ∷ ops) (e ∷ es) k h =
-        weaken M' (seq M' (hand_top_to ex m ops es (fetch C e (length es) (hand_value C (place_type e) k)) h.1) (seq M' (fetch_to M' C l size ex (length es) e v h.0) (value_out (place_type e) v (place_of l ex (length es) e v h.0)))) (omega arith) (omega (arith, less_shorter m es))
+        weaken M' (seq M' (hand_top_to ex m ops es (fetch C e (length es) (hand_value C (place_type e) k)) h.1) (seq M' (fetch_to M' C l size ex (length es) e v h.0) (value_out (place_type e) v (place_of C l ex (length es) e v h.0)))) (omega arith) (omega (arith, less_shorter m es))
 
     -- all operands of the frame
     pub hand_to : {X : Shell} {g : World} {co : List CollectorCall} (ex : List Value) (a : Option ValType) (Ls : List Label) (ss : List (List Place)) (k : Nodes) → FitsLabels C l ex a Ls ss → To M' 0 (2 * length (joined ss)) (st X (l ++ ex) [] (hand C (joined ss) k) g co) (st X (l ++ ex) [] k g (tell_labels Ls co))
@@ -136,7 +136,7 @@ module _ (M' : Engine) (C : Ctx) (sp : Speaks M' C.source) where
         let co1 = tell_ops (drop m ops) co in
         let co2 = tell_ops (take m ops) co1 in
         let A = armed X (to_exit C ls) [] in
-        let s1 : To M' 0 (2 * length (less m es)) (st X (l ++ ex) [] (hand C (less m es) (get C (kind_at C) test)) g co) (st X (l ++ ex) [] (get C (kind_at C) test) g co1) = hand_all_to ex (drop m ops) (less m es) (get C (kind_at C) test) (all_less l ex m ops es at) in
+        let s1 : To M' 0 (2 * length (less m es)) (st X (l ++ ex) [] (hand C (less m es) (get C (kind_at C) test)) g co) (st X (l ++ ex) [] (get C (kind_at C) test) g co1) = hand_all_to ex (drop m ops) (less m es) (get C (kind_at C) test) (all_less C l ex m ops es at) in
         let s2 : To M' 1 1 (st X (l ++ ex) [] (get C (kind_at C) test) g co1) (st X (l ++ ex) (values.I32 (suc j) ∷ []) test g co1) = added_get M' C l size ex (kind_at C) (values.I32 (suc j)) kd in
         let s3 : To M' 1 1 (st X (l ++ ex) (values.I32 (suc j) ∷ []) test g co1) (st A (l ++ ex) [] others g co1) = if_up_to M' j in
         let s4 : To M' 0 (2 * (length es - length (less m es))) (st A (l ++ ex) [] others g co1) (st A (l ++ ex) [] stop g co2) = hand_top_to ex m ops es stop at in
@@ -180,7 +180,7 @@ module _ (M' : Engine) (C : Ctx) (sp : Speaks M' C.source) where
       subst (λ m. To M' 0 (2 * length l) (st X2 (l ++ ex) [] (hand_locals C 0 m k3) g0 co) (st X2 (l ++ ex) [] k3 g0 co2)) lt (locals_to ex l [] k3) in
       let a5 : To M' 1 1 (st X2 (l ++ ex) [] k3 g0 co2) (st X2 (l ++ ex) (values.I32 k ∷ []) (const (values.I32 C.index) (get C (offset_at C) (const nl k7))) g0 co2) = added_get M' C l size ex (kind_at C) (values.I32 k) kd in
       let a6 : To M' 1 1 (st X2 (l ++ ex) (values.I32 C.index ∷ values.I32 k ∷ []) (get C (offset_at C) (const nl k7)) g0 co2) (st X2 (l ++ ex) (values.I32 o ∷ values.I32 C.index ∷ values.I32 k ∷ []) (const nl k7) g0 co2) = added_get M' C l size ex (offset_at C) (values.I32 o) off in
-      let bytes = values.I64 (byte_count g.memory) ∷ [] in
+      let bytes = values.I64 (told_length g.memory) ∷ [] in
       let put_ : slice_set g0.globals (flag_of C.source) (values.I32 1) ≡ g.globals ++ values.I32 1 ∷ bytes = put_first g.globals (flag_of C.source) (values.I32 b) (values.I32 1) bytes fl in
       let a7 : To M' 1 1 (st X2 (l ++ ex) (values.I32 1 ∷ []) (basic 0 (GlobalSet (flag_of C.source)) k9) g0 co3) (st X2 (l ++ ex) [] k9 g1 co3) = step_plain M' (GlobalSet (flag_of C.source)) (values.I32 1 ∷ []) [] (l ++ ex) g1 [] [] refl (rw (get_first g.globals (flag_of C.source) (values.I32 b) bytes fl, put_) refl) refl in
       weaken M' (seq M' a4 (seq M' a5 (seq M' (push_to M' (values.I32 C.index)) (seq M' a6 (seq M' (push_to M' nl) (seq M' (entry_to M' C.source sp k C.index o (length C.locals)) (seq M' (push_to M' (values.I32 1)) (seq M' a7 (zero_out {X = X2} C.result refl))))))))) (omega arith) (omega (arith, size))
@@ -211,7 +211,7 @@ module _ (M' : Engine) (C : Ctx) (sp : Speaks M' C.source) where
   carried_to (Some t) (v ∷ w ∷ vs) k e = absurd (cc)
 
   -- at a landing a frame hands over its operands, and then its locals
-  pub landing_out : (M : Engine) (l : List Value) (lt : types l ≡ C.locals) (ex : List Value) (x : Landing) (outer : ℕ) (K : Kind) (B : List Label) (FR : List Frame) (g : World) (b : ℕ) (co : List CollectorCall) (o : ℕ) (vs ops : List Value) → types ex ≡ added C.slots → slice_get ex (offset_at C) ≡ Some (values.I32 o) → types g.globals ≡ global_types C.source → ((o : List Value) (c : Nodes) → branch outer [] (label o c 0 K ∷ B) ≡ inside (label [] (exit_code C) 0 (returns C.result) ∷ [])) → AllIn l (slice_set ex (kind_at C) (values.I32 x.kind)) ops x.places → exactly x.carried vs ≡ Some vs → length x.places ≤ C.slots → Gets M' 1 (2 * C.slots + 2 * length C.locals + 20) (st (record { idx = mapped C.source C.index; result = C.result; kind = K; below = B; frames = FR }) (l ++ ex) vs (landing_code C outer x) (flagged M g (values.I32 b)) co) (deliver M' (zero_vs C.result) FR (flagged M g (values.I32 1)) (collector_calls.Frame x.kind C.index o (length C.locals) ∷ tell_locals l (tell_ops (vs ++ ops) co)))
+  pub landing_out : (M : Engine) (l : List Value) (lt : types l ≡ C.locals) (ex : List Value) (x : Landing) (outer : ℕ) (K : Kind) (B : List Label) (FR : List Frame) (g : World) (b : ℕ) (co : List CollectorCall) (o : ℕ) (vs ops : List Value) → types ex ≡ added C.slots → slice_get ex (offset_at C) ≡ Some (values.I32 o) → types g.globals ≡ global_types C.source → ((o : List Value) (c : Nodes) → branch outer [] (label o c 0 K ∷ B) ≡ inside (label [] (exit_code C) 0 (returns C.result) ∷ [])) → AllIn C l (slice_set ex (kind_at C) (values.I32 x.kind)) ops x.places → exactly x.carried vs ≡ Some vs → length x.places ≤ C.slots → Gets M' 1 (2 * C.slots + 2 * length C.locals + 20) (st (record { idx = mapped C.source C.index; result = C.result; kind = K; below = B; frames = FR }) (l ++ ex) vs (landing_code C outer x) (flagged M g (values.I32 b)) co) (deliver M' (zero_vs C.result) FR (flagged M g (values.I32 1)) (collector_calls.Frame x.kind C.index o (length C.locals) ∷ tell_locals l (tell_ops (vs ++ ops) co)))
   landing_out M l lt ex x outer K B FR g b co o vs ops room off gt br all e low =
       let size = len_of l C.locals lt in
       let X1 : Shell = record { idx = mapped C.source C.index; result = C.result; kind = K; below = B; frames = FR } in
@@ -235,7 +235,7 @@ module _ (M' : Engine) (C : Ctx) (sp : Speaks M' C.source) where
       rw (tell-append vs ops co) (weaken M' (seq M' a1 (seq M' a2 (seq M' a3 (seq M' a4 (exit_out M l lt ex2 FR g b co2 o x.kind kd2 off2 gt))))) (omega arith) (omega (arith, low)))
 
   -- a frame is left for a landing
-  pub landed_out : (M : Engine) (l : List Value) (lt : types l ≡ C.locals) (ex : List Value) (L : Label) (Ls : List Label) (e : List Place) (ss : List (List Place)) (x : Landing) (n : ℕ) (FR : List Frame) (g : World) (b : ℕ) (co : List CollectorCall) (o j : ℕ) (s vs ops : List Value) (k : Nodes) (a : Option ValType) → FitsLabels C l ex a (L ∷ Ls) (e ∷ ss) → types ex ≡ added C.slots → slice_get ex (offset_at C) ≡ Some (values.I32 o) → types g.globals ≡ global_types C.source → number_of x C.landings ≡ Some n → top x.carried s ≡ Some vs → AllIn l (slice_set ex (kind_at C) (values.I32 x.kind)) ops x.places → length x.places ≤ C.slots → Gets M' 1 (2 * C.slots + 2 * length C.locals + 21) (st (record { idx = mapped C.source C.index; result = C.result; kind = t_kind C (length Ls) (joined ss) L.kind; below = t_labels C (pending L.kind) Ls ss; frames = FR }) (l ++ ex) (values.I32 (suc j) ∷ s) (jump 0 (BrIf (suc (length Ls) + n)) k) (flagged M g (values.I32 b)) co) (deliver M' (zero_vs C.result) FR (flagged M g (values.I32 1)) (collector_calls.Frame x.kind C.index o (length C.locals) ∷ tell_locals l (tell_ops (vs ++ ops) co)))
+  pub landed_out : (M : Engine) (l : List Value) (lt : types l ≡ C.locals) (ex : List Value) (L : Label) (Ls : List Label) (e : List Place) (ss : List (List Place)) (x : Landing) (n : ℕ) (FR : List Frame) (g : World) (b : ℕ) (co : List CollectorCall) (o j : ℕ) (s vs ops : List Value) (k : Nodes) (a : Option ValType) → FitsLabels C l ex a (L ∷ Ls) (e ∷ ss) → types ex ≡ added C.slots → slice_get ex (offset_at C) ≡ Some (values.I32 o) → types g.globals ≡ global_types C.source → number_of x C.landings ≡ Some n → top x.carried s ≡ Some vs → AllIn C l (slice_set ex (kind_at C) (values.I32 x.kind)) ops x.places → length x.places ≤ C.slots → Gets M' 1 (2 * C.slots + 2 * length C.locals + 21) (st (record { idx = mapped C.source C.index; result = C.result; kind = t_kind C (length Ls) (joined ss) L.kind; below = t_labels C (pending L.kind) Ls ss; frames = FR }) (l ++ ex) (values.I32 (suc j) ∷ s) (jump 0 (BrIf (suc (length Ls) + n)) k) (flagged M g (values.I32 b)) co) (deliver M' (zero_vs C.result) FR (flagged M g (values.I32 1)) (collector_calls.Frame x.kind C.index o (length C.locals) ∷ tell_locals l (tell_ops (vs ++ ops) co)))
   landed_out M l lt ex L Ls e ss x n FR g b co o j s vs ops k a h room off gt is t all low =
       let N = jump 0 (BrIf (suc (length Ls) + n)) k in
       let K = t_kind C (length Ls) (joined ss) L.kind in
@@ -282,8 +282,8 @@ module _ (M M' : Engine) (E : ℕ) (gl : List ValType) (W : Wrap) (sp : Speaks M
           let g1 = flagged M g (values.I32 1) in
           let ex2 = slice_set ex (kind_at C) (values.I32 0) in
           let ex3 = slice_set ex2 (offset_at C) (values.I32 o) in
-          let h2 = fits_put C l ex a (L ∷ Ls) (e ∷ ss) (kind_at C) (values.I32 0) (omega (arith, low)) h in
-          let h3 = fits_put C l ex2 a (L ∷ Ls) (e ∷ ss) (offset_at C) (values.I32 o) (omega (arith, low)) h2 in
+          let h2 = fits_kind C l ex a (L ∷ Ls) (e ∷ ss) (values.I32 0) (omega (arith, low)) h in
+          let h3 = fits_offset C l ex2 a (L ∷ Ls) (e ∷ ss) (values.I32 o) (omega (arith, low)) h2 in
           let H = hand C (e ++ joined ss) (to_exit C (suc (length Ls))) in
           let s2 : To M' 1 1 (st X (l ++ ex) s (get_flag C (if_any arm k)) g1 co) (st X (l ++ ex) (values.I32 1 ∷ s) (if_any arm k) g1 co) = flag_to M M' E gl W C g 1 fl in
           let s3 : To M' 1 1 (st X (l ++ ex) (values.I32 1 ∷ s) (if_any arm k) g1 co) (st X1 (l ++ ex) [] arm g1 co) = one_step M' _ _ refl in
@@ -301,8 +301,8 @@ module _ (M M' : Engine) (E : ℕ) (gl : List ValType) (W : Wrap) (sp : Speaks M
           let exm = slice_set ex (offset_at C) (values.I32 o) in
           let at : slice_get (types ex) (offset_at C) ≡ Some I32 = rw room (added_offset C.slots) in
           let roomm : types exm ≡ added C.slots = types-slice_set ex (offset_at C) I32 (values.I32 o) at refl ∙ room in
-          let hm = fits_put C l ex a (L ∷ Ls) (e ∷ ss) (offset_at C) (values.I32 o) (omega (arith, low)) h in
-          let hk = fits_put C l exm a (L ∷ Ls) (e ∷ ss) (kind_at C) (values.I32 0) (omega (arith, low)) hm in
+          let hm = fits_offset C l ex a (L ∷ Ls) (e ∷ ss) (values.I32 o) (omega (arith, low)) h in
+          let hk = fits_kind C l exm a (L ∷ Ls) (e ∷ ss) (values.I32 0) (omega (arith, low)) hm in
           let go = jump 0 (BrIf (suc (length Ls) + m)) k in
           let s1 : To M' 2 2 (st X (l ++ ex) s (const (values.I32 o) (set C (offset_at C) (get_flag C go))) g1 co) (st X (l ++ exm) s (get_flag C go) g1 co) = mark_to M' C l size o ex room in
           let s2 : To M' 1 1 (st X (l ++ exm) s (get_flag C go) g1 co) (st X (l ++ exm) (values.I32 1 ∷ s) go g1 co) = flag_to M M' E gl W C g 1 fl in
@@ -321,8 +321,8 @@ module _ (M M' : Engine) (E : ℕ) (gl : List ValType) (W : Wrap) (sp : Speaks M
       let n = length C.locals in
       let pl = grown_fits C r es ex f.room h.1 in
       let pass = passes C L.nodes in
-      let ex1 = stored_unless pass r (λ t. slot t (length es)) (zero_vs r) ex in
-      let len1 : types ex1 ≡ types ex = types_unless pass r (λ t. slot t (length es)) (zero_vs r) ex pl (exact_zero r) in
+      let ex1 = stored_unless pass r (λ t. slot C.slots t (length es)) (zero_vs r) ex in
+      let len1 : types ex1 ≡ types ex = types_unless pass r (λ t. slot C.slots t (length es)) (zero_vs r) ex pl (exact_zero r) in
       let k = rewrite C ls (grown r es) L.nodes in
       let k1 = test_flag C ls es cl k in
       let all_ = zero_vs r ++ L.operands in
@@ -331,7 +331,7 @@ module _ (M M' : Engine) (E : ℕ) (gl : List ValType) (W : Wrap) (sp : Speaks M
       let fl = flag_len C g gt in
       let at : slice_get (types ex1) (kind_at C) ≡ Some I32 = rw (len1 ∙ f.room) (added_kind C.slots) in
       let g1 = flagged M g (values.I32 1) in
-      let h1 = fits_unless pass C l ex r r (L ∷ Ls) (e ∷ ss) (λ t. slot t (length es)) (zero_vs r) (λ t. omega arith) h in
+      let h1 = fits_unless pass C l ex r r (L ∷ Ls) (e ∷ ss) (λ t. slot C.slots t (length es)) (zero_vs r) (λ t. clear_slot C (length es) t low) h in
       let room1 = len1 ∙ f.room in
       let sp_ = subst (Speaks M') (sym f.funcs) sp in
       let go1 : Gets M' p q t (next (st X (l ++ ex) all_ (keep pass C (option_map Spilled r) es k1) g1 co)) = u in
@@ -353,21 +353,21 @@ module _ (M M' : Engine) (E : ℕ) (gl : List ValType) (W : Wrap) (sp : Speaks M
       let size = len_of l C.locals f.size in
       let n = length C.locals in
       let pl = grown_fits C r es ex f.room h.1 in
-      let ex1 = stored r (λ t. slot t (length es)) (zero_vs r) ex in
-      let len1 : types ex1 ≡ types ex = types-stored r (λ t. slot t (length es)) (zero_vs r) ex pl (exact_zero r) in
+      let ex1 = stored r (λ t. slot C.slots t (length es)) (zero_vs r) ex in
+      let len1 : types ex1 ≡ types ex = types-stored r (λ t. slot C.slots t (length es)) (zero_vs r) ex pl (exact_zero r) in
       let k = rewrite C ls (grown r es) L.nodes in
       let kr = drops (length others.taken) (renew C.source (reload C r es k)) in
       let K = test_both C ls es cl others.others kr in
       let ops = others.taken ++ L.operands in
       let low : length es ≤ C.slots = omega (arith, grown_longer r es, room_height C (grown r es) L.nodes h.2) in
-      let kd : slice_get ex1 (kind_at C) ≡ Some (values.I32 0) = stored_other r (λ t. slot t (length es)) (zero_vs r) ex (kind_at C) (λ t. kind_no_slot C (length es) t low) ∙ f.no_kind.0 in
+      let kd : slice_get ex1 (kind_at C) ≡ Some (values.I32 0) = stored_other r (λ t. slot C.slots t (length es)) (zero_vs r) ex (kind_at C) (λ t. kind_no_slot C (length es) t low) ∙ f.no_kind.0 in
       let gt : types g.globals ≡ global_types C.source = gl_.globals ∙ sym f.flag in
       let fl = flag_len C g gt in
       let A = armed X K ops in
       let X1 = armed X kr ops in
       let H = hand_left C ls es others.others in
       let g1 = flagged M g (values.I32 1) in
-      let h1 = fits_stored C l ex r r (L ∷ Ls) (e ∷ ss) (λ t. slot t (length es)) (zero_vs r) (λ t. omega arith) h in
+      let h1 = fits_stored C l ex r r (L ∷ Ls) (e ∷ ss) (λ t. slot C.slots t (length es)) (zero_vs r) (λ t. clear_slot C (length es) t low) h in
       let go1 : Gets M' p q t (next (st A (l ++ ex) (zero_vs r) (store C r es stop) g1 co)) = rw append-nil at u in
       let s1 : To M' 0 1 (st A (l ++ ex) (zero_vs r) (store C r es stop) g1 co) (st A (l ++ ex1) [] stop g1 co) = store_to M' C l size ex r es (zero_vs r) stop pl (exact_zero r) in
       let s2 : To M' 1 1 (st A (l ++ ex1) [] stop g1 co) (st X (l ++ ex1) ops K g1 co) = one_step M' _ _ refl in
@@ -376,7 +376,7 @@ module _ (M M' : Engine) (E : ℕ) (gl : List ValType) (W : Wrap) (sp : Speaks M
       let br = exit_branch C l ex r ops kr L Ls e ss h in
       let sp_ = subst (Speaks M') (sym f.funcs) sp in
       let ex3 = slice_set ex1 (offset_at C) (values.I32 cl) in
-      let h3 = fits_put C l ex1 r (L ∷ Ls) (e ∷ ss) (offset_at C) (values.I32 cl) (omega (arith, low)) h1 in
+      let h3 = fits_offset C l ex1 r (L ∷ Ls) (e ∷ ss) (values.I32 cl) (omega (arith, low)) h1 in
       let ne : kind_at C ≢ offset_at C = omega arith in
       let kd3 : slice_get ex3 (kind_at C) ≡ Some (values.I32 0) = slice_get-put_other ex1 (kind_at C) (offset_at C) (values.I32 cl) ne ∙ kd in
       let co1 = tell_labels (L ∷ Ls) co in

@@ -149,13 +149,13 @@ local_step C ls x d {a} {b} {c} lt p q k behind =
 
 -- ---- results
 
-pub own_and_slot : (C : Ctx) (t : ValType) (l height y : ℕ) {a b c : Written} → y ≡ slot t height → Emits (basic 0 (LocalGet l)) a b → Emits (set C y) b c →
-    Emits (λ k. basic 0 (LocalGet l) (set C (slot t height) k)) a c
+pub own_and_slot : (C : Ctx) (t : ValType) (l height y : ℕ) {a b c : Written} → y ≡ slot C.slots t height → Emits (basic 0 (LocalGet l)) a b → Emits (set C y) b c →
+    Emits (λ k. basic 0 (LocalGet l) (set C (slot C.slots t height) k)) a c
 own_and_slot C t l height y d p q = emits_same (λ k. ap (λ y. basic 0 (LocalGet l) (set C y k)) (sym d)) (emits_then p q)
 
 -- a result that is kept, or not
-pub kept_in : (C : Ctx) (q : Bool) (t : ValType) (height x : ℕ) (es : List Place) {a b : Written} → q ≡ false → x ≡ slot t height → length es ≡ height → Emits (basic 0 (LocalTee (length C.locals + x))) a b → Emits (keep_slot q C t es) a b
-kept_in C q t height x es {a} {b} is e d p = subst (λ q. Emits (keep_slot q C t es) a b) (sym is) (subst (λ y. Emits (basic 0 (LocalTee (length C.locals + y))) a b) (e ∙ ap (slot t) (sym d)) p)
+pub kept_in : (C : Ctx) (q : Bool) (t : ValType) (height x : ℕ) (es : List Place) {a b : Written} → q ≡ false → x ≡ slot C.slots t height → length es ≡ height → Emits (basic 0 (LocalTee (length C.locals + x))) a b → Emits (keep_slot q C t es) a b
+kept_in C q t height x es {a} {b} is e d p = subst (λ q. Emits (keep_slot q C t es) a b) (sym is) (subst (λ y. Emits (basic 0 (LocalTee (length C.locals + y))) a b) (e ∙ ap (slot C.slots t) (sym d)) p)
 
 pub passed_on : (C : Ctx) (q : Bool) (t : ValType) (es : List Place) {a : Written} → q ≡ true → Emits (keep_slot q C t es) a a
 passed_on C q t es {a} is = subst (λ q. Emits (keep_slot q C t es) a a) (sym is) (record { emitted = λ k behind. refl })

@@ -1,6 +1,6 @@
 //! What is fixed in a function that is rewritten.
 
-ghost use Rattle.std.specs.Prelude.{◌≡◌, ◌+◌, ◌*◌, ◌≤◌, length, map, OnOk};
+ghost use Rattle.std.specs.Prelude.{◌≡◌, ◌+◌, ◌*◌, ◌^◌, ◌<◌, ◌≤◌, length, map, OnOk};
 ghost use Rattle.wasm_syntax.specs.Tree.{basic};
 ghost use Rattle.wasm_syntax.specs.declared.instruction.Basic.TheVariants.{GlobalGet as GlobalGetOf};
 ghost use Rattle.wasm_syntax.specs.declared.instruction.Basic.TheVariants.{LocalTee as LocalTeeOf};
@@ -92,7 +92,8 @@ impl<'m, 'a> FunctionContext<'m, 'a> {
 
     /// The number of heights.
     pub fn slots(&self) -> u32
-        ensures { result ≡ self.now.slots }
+        ensures count { result ≡ self.now.slots }
+        ensures few { 2 * result + 4 < 2 ^ 32 }
     {
         self.slots
     }
@@ -137,25 +138,24 @@ impl<'m, 'a> FunctionContext<'m, 'a> {
     /// The place of the slot of a type at a height.
     pub fn slot_at(&self, t: ValType, height: usize) -> u32
         requires { height ≤ self.now.slots }
-        ensures { result ≡ slot t height }
+        ensures numbered { result ≡ slot self.now.slots t height }
+        ensures low { result ≤ 2 * self.now.slots + 3 }
     {
-        // The field is named so that the invariant is known, by which the number fits.
-        let _ = &self.slots;
-        slot(t, height as u32)
+        slot(self.slots, t, height as u32)
     }
 
     /// The place of the kind of a trap.
     pub fn kind_at(&self) -> u32
         ensures { result ≡ kind_at self.now }
     {
-        2 * self.slots + 2
+        self.slots + 1
     }
 
     /// The place of the offset of a trap.
     pub fn offset_at(&self) -> u32
         ensures { result ≡ offset_at self.now }
     {
-        2 * self.slots + 3
+        self.slots + 2
     }
 
     /// Reads an added local.
@@ -191,7 +191,7 @@ impl<'m, 'a> FunctionContext<'m, 'a> {
         writer.basic(Basic::GlobalGet(self.map.flag()))
     }
 
-    /// Reads the length of the memory in bytes, as an i64.
+    /// Reads four bytes less than the length of the memory, as an i64.
     pub fn get_length(&self, writer: &mut CodeWriter) -> Result<(), NoMemory>
         ensures { OnOk result (Emits (get_length self.now.source) writer.old writer.new) }
     {

@@ -1,4 +1,4 @@
-//! The global that has the length of the memory in bytes, which guards read.
+//! The global that tells the length of the memory, which guards read.
 
 ghost use Rattle.std.specs.Prelude.{OnOk};
 ghost use Rattle.rewrite_bodies.specs.calls.Guards.{memory_length, renew, renewed, set_length};
@@ -9,7 +9,7 @@ use causes::NoMemory;
 use index_map::IndexMap;
 use wasm_syntax::{Basic, Binary, Convert, Limits, ValType, Value};
 
-/// The length of the memory in bytes, as an i64.
+/// Four bytes less than the length of the memory, as an i64.
 fn memory_length(writer: &mut CodeWriter) -> Result<(), NoMemory>
     ensures { OnOk result (Emits memory_length writer.old writer.new) }
 {
@@ -17,10 +17,12 @@ fn memory_length(writer: &mut CodeWriter) -> Result<(), NoMemory>
     writer.basic(Basic::Convert(Convert::ExtendU))?;
     // A page has 2 ^ 16 bytes, and the shift is spelled in fewer bytes than the product.
     writer.const_value(Value::I64(16))?;
-    writer.basic(Basic::Binary(ValType::I64, Binary::Shl))
+    writer.basic(Basic::Binary(ValType::I64, Binary::Shl))?;
+    writer.const_value(Value::I64(4))?;
+    writer.basic(Basic::Binary(ValType::I64, Binary::Sub))
 }
 
-/// Sets the global to the length of the memory, behind an instruction that changes it.
+/// Sets the global by the length of the memory, behind an instruction that changes it.
 pub(crate) fn set_length(map: &IndexMap<'_>, writer: &mut CodeWriter) -> Result<(), NoMemory>
     ensures { OnOk result (Emits (set_length map.now) writer.old writer.new) }
 {

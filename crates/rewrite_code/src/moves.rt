@@ -155,7 +155,7 @@ impl<'m, 'a> FunctionContext<'m, 'a> {
     ) -> Result<(), NoMemory>
         requires { height ≤ self.now.slots }
         ensures { OnOk result (Emits (λ k. basic 0 (LocalGetOf local)
-            (set self.now (slot t height) k)) writer.old writer.new) }
+            (set self.now (slot self.now.slots t height) k)) writer.old writer.new) }
     {
         writer.basic(Basic::LocalGet(local))?;
         self.set(writer, self.slot_at(t, height))

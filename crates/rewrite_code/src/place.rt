@@ -1,8 +1,7 @@
 //! Where operands are.
 
-ghost use Rattle.std.specs.Prelude.{◌≡◌, ◌+◌, ◌*◌, ◌^◌, ◌<◌, [], ◌∷◌, length, map, slice_get, option_map, OnOk, OnErr};
+ghost use Rattle.std.specs.Prelude.{◌≡◌, ◌+◌, ◌*◌, ◌^◌, ◌<◌, ◌≤◌, [], ◌∷◌, length, map, slice_get, option_map, OnOk, OnErr};
 ghost use Rattle.std.specs.Prelude.{MatchOption};
-ghost use Rattle.rewrite_bodies.specs.Numbering.{type_number};
 ghost use Rattle.rewrite_bodies.specs.calls.Slots.{place_type, slot, less, grown, uncopied, without};
 ghost use Rattle.rewrite_code.specs.calls.Places.{place, from_top, these};
 
@@ -20,21 +19,18 @@ pub enum OperandPlace {
     Copied(ValType, u32),
 }
 
-fn type_number(t: ValType) -> u32
-    ensures { result ≡ type_number t }
+/// The place of a slot among the locals that are added for so many heights. A height is the number
+/// of operands below.
+pub fn slot(slots: u32, t: ValType, height: u32) -> u32
+    requires within { height ≤ slots }
+    requires few { 2 * slots + 3 < 2 ^ 32 }
+    ensures numbered { result ≡ slot slots t height }
+    ensures low { result ≤ 2 * slots + 3 }
 {
     match t {
-        ValType::I32 => 0,
-        ValType::I64 => 1,
+        ValType::I32 => height,
+        ValType::I64 => slots + 3 + height,
     }
-}
-
-/// The place of a slot among the added locals. A height is the number of operands below.
-pub fn slot(t: ValType, height: u32) -> u32
-    requires { 2 * height + 1 < 2 ^ 32 }
-    ensures { result ≡ slot t height }
-{
-    2 * height + type_number(t)
 }
 
 impl OperandPlace {

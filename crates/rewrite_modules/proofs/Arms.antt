@@ -14,7 +14,7 @@ use Rattle.rewrite_modules.specs.calls.Bare.{bare_nodes}
 use Rattle.wasm_syntax.specs.Access.{load_bits, store_bits}
 use Rattle.int_ops.specs.declared.operators.Binary.{Binary as BinaryOp}
 use Rattle.int_ops.specs.declared.operators.Binary.TheVariants.{Add, And, Or}
-use Rattle.int_ops.specs.declared.operators.Compare.TheVariants.{Eq}
+use Rattle.int_ops.specs.declared.operators.Compare.TheVariants.{Eq, GtS}
 use Rattle.wasm_syntax.specs.declared.instruction.Convert.TheVariants.{ExtendU}
 use Rattle.wasm_syntax.specs.declared.instruction.Basic.TheVariants.{Select, LocalGet, Eqz, Compare, Binary, Convert}
 use Rattle.wasm_syntax.specs.declared.value.ValType.TheVariants.{I32, I64}
@@ -22,7 +22,7 @@ use Rattle.wasm_syntax.specs.Sizes.{parameter_count}
 use Rattle.rewrite_bodies.specs.Numbering.{import_count, mapped, frame_import, global_types, doubles}
 use Rattle.rewrite_bodies.specs.calls.Slots.{Place, place_type, Ctx, slot, kind_at, offset_at, less, grown, under, result_place, after_plain, Spilled, Known, Copied, Landing, local_written}
 use Rattle.rewrite_bodies.specs.calls.Pieces.{get, set, const, i32, call, if_any, fetch, load, keep_slot, keep, store, reload, spill_one, spill, drops}
-use Rattle.rewrite_bodies.specs.calls.Guards.{least, minus_one, guard_zero, guard_signed, past_end, out_test, guard_memory, range_test, guard, can_trap, kind, helper, renewed, renew}
+use Rattle.rewrite_bodies.specs.calls.Guards.{least, minus_one, guard_zero, guard_signed, past_end, beyond_word, out_test, guard_memory, range_test, guard, can_trap, kind, helper, renewed, renew}
 use Rattle.rewrite_bodies.specs.calls.Rewrite.{hand_value, hand, hand_top, to_exit, unwind, test_flag, test_both, unwind_kind, tested, guarded, passes, free, plain, with_result, after_call, after_direct, call_code, helper_of, past_shown, indirect_code, control, rewrite, hand_locals, zero_result, raise_flag, exit_code, body, checked, get_flag, hand_carried, landing_code, nested, laid, free_at, grows, lengthened}
 use Rattle.rewrite_modules.specs.calls.Wrappers.{get_all, tell_globals, after_wrapped, wrapper}
 use Rattle.rewrite_modules.specs.calls.FlatCode.{op}
@@ -76,7 +76,7 @@ module _ (C : Ctx) where
   tree_spill_one : (these : ℕ → Bool) (e : Place) (h : ℕ) (k : Nodes) → IsTree k → IsTree (spill_one C these e h k)
   tree_spill_one these (Spilled t) h k tk = tk
   tree_spill_one these (Known v) h k tk = tk
-  tree_spill_one these (Copied t x) h k tk = tree_if (these x) (basic 0 (LocalGet x) (set C (slot t h) k)) k tk tk
+  tree_spill_one these (Copied t x) h k tk = tree_if (these x) (basic 0 (LocalGet x) (set C (slot C.slots t h) k)) k tk tk
 
   tree_spill : (these : ℕ → Bool) (es : List Place) (k : Nodes) → IsTree k → IsTree (spill C these es k)
   tree_spill these [] k tk = tk
@@ -111,7 +111,11 @@ module _ (C : Ctx) where
       tree_fetch a h (const (least t) (basic 0 (Compare t Eq) (fetch C b (suc h) k3))) (tree_fetch b (suc h) k3 (tree_zero t b (suc h) k5 tk))
 
   tree_memory : (a : Place) (h n : ℕ) (k : Nodes) → IsTree k → IsTree (guard_memory C a h n k)
-  tree_memory a h n k tk = tree_fetch a h (out_test C.source n k) tk
+  tree_memory a h n k tk = tree_fetch a h (out_test C.source n k) (tree_beyond (n == 4) tk)
+    where
+      tree_beyond : (q : Bool) → IsTree k → IsTree (beyond_word q n (basic 0 (Compare I64 GtS) k))
+      tree_beyond true t = t
+      tree_beyond false t = t
 
   tree_range : (a : Place) (h : ℕ) (n : Place) (hn : ℕ) (k : Nodes) → IsTree k → IsTree (range_test C a h n hn k)
   tree_range a h n hn k tk =

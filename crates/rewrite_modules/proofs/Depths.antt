@@ -15,14 +15,14 @@ use Rattle.rewrite_modules.specs.calls.Bare.{bare_nodes}
 use Rattle.wasm_syntax.specs.Access.{load_bits, store_bits}
 use Rattle.int_ops.specs.declared.operators.Binary.{Binary as BinaryOp}
 use Rattle.int_ops.specs.declared.operators.Binary.TheVariants.{Add, And, Or}
-use Rattle.int_ops.specs.declared.operators.Compare.TheVariants.{Eq}
+use Rattle.int_ops.specs.declared.operators.Compare.TheVariants.{Eq, GtS}
 use Rattle.wasm_syntax.specs.declared.instruction.Convert.TheVariants.{ExtendU}
 use Rattle.wasm_syntax.specs.declared.instruction.Basic.TheVariants.{Select, LocalGet, Eqz, Compare, Binary, Convert}
 use Rattle.wasm_syntax.specs.declared.value.ValType.TheVariants.{I32, I64}
 use Rattle.rewrite_bodies.specs.Numbering.{import_count, mapped, frame_import, global_types, doubles}
 use Rattle.rewrite_bodies.specs.calls.Slots.{Place, place_type, Ctx, slot, kind_at, offset_at, less, grown, under, result_place, after_plain, Spilled, Known, Copied, Landing, local_written}
 use Rattle.rewrite_bodies.specs.calls.Pieces.{get, set, const, i32, call, if_any, fetch, load, keep_slot, keep, store, reload, spill_one, spill, drops}
-use Rattle.rewrite_bodies.specs.calls.Guards.{least, minus_one, guard_zero, guard_signed, past_end, out_test, guard_memory, range_test, guard, can_trap, kind, helper, renewed, renew}
+use Rattle.rewrite_bodies.specs.calls.Guards.{least, minus_one, guard_zero, guard_signed, past_end, beyond_word, out_test, guard_memory, range_test, guard, can_trap, kind, helper, renewed, renew}
 use Rattle.rewrite_bodies.specs.calls.Rewrite.{hand_value, hand, hand_top, to_exit, unwind, test_flag, test_both, unwind_kind, tested, guarded, passes, free, plain, with_result, after_call, after_direct, call_code, helper_of, past_shown, indirect_code, control, rewrite, hand_locals, zero_result, raise_flag, exit_code, body, checked, get_flag, hand_carried, landing_code, nested, laid, free_at, grows, lengthened}
 use Rattle.rewrite_modules.specs.calls.Wrappers.{get_all, tell_globals, after_wrapped, wrapper}
 use Rattle.wasm_syntax.specs.declared.instruction.Instr.{Instr}
@@ -216,7 +216,7 @@ module _ (C : Ctx) where
   low_spill_one : (lv : ℕ) (these : ℕ → Bool) (e : Place) (h : ℕ) (k : Nodes) → Low lv k → Low lv (spill_one C these e h k)
   low_spill_one lv these (Spilled t) h k tk = tk
   low_spill_one lv these (Known v) h k tk = tk
-  low_spill_one lv these (Copied t x) h k tk = low_if lv (these x) (basic 0 (LocalGet x) (set C (slot t h) k)) k tk tk
+  low_spill_one lv these (Copied t x) h k tk = low_if lv (these x) (basic 0 (LocalGet x) (set C (slot C.slots t h) k)) k tk tk
 
   low_spill : (lv : ℕ) (these : ℕ → Bool) (es : List Place) (k : Nodes) → Low lv k → Low lv (spill C these es k)
   low_spill lv these [] k tk = tk
@@ -251,7 +251,11 @@ module _ (C : Ctx) where
       low_fetch lv a h (const (least t) (basic 0 (Compare t Eq) (fetch C b (suc h) k3))) (low_fetch lv b (suc h) k3 (low_zero lv t b (suc h) k5 tk))
 
   low_memory : (lv : ℕ) (a : Place) (h n : ℕ) (k : Nodes) → Low lv k → Low lv (guard_memory C a h n k)
-  low_memory lv a h n k tk = low_fetch lv a h (out_test C.source n k) tk
+  low_memory lv a h n k tk = low_fetch lv a h (out_test C.source n k) (low_beyond (n == 4) tk)
+    where
+      low_beyond : (q : Bool) → Low lv k → Low lv (beyond_word q n (basic 0 (Compare I64 GtS) k))
+      low_beyond true t = t
+      low_beyond false t = t
 
   low_range : (lv : ℕ) (a : Place) (h : ℕ) (n : Place) (hn : ℕ) (k : Nodes) → Low lv k → Low lv (range_test C a h n hn k)
   low_range lv a h n hn k tk =

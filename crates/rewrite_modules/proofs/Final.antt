@@ -20,7 +20,7 @@ use Rattle.rewrite_bodies.specs.Numbering.{is_in, element_functions, mapped, glo
 use Rattle.rewrite_bodies.specs.calls.Pieces.{call, tree_of}
 use Rattle.std.proofs.lemmas.List.{length-map}
 use Rattle.rewrite_bodies.specs.calls.Known.{HasLeast}
-use Rattle.rewrite_bodies.specs.calls.Agreement.{Wit, MemoryFits, byte_count, WorldFits, FitsTop, FitsConfig, Wrap, flagged}
+use Rattle.rewrite_bodies.specs.calls.Agreement.{Wit, MemoryFits, byte_count, told_length, WorldFits, FitsTop, FitsConfig, Wrap, flagged}
 use Rattle.rewrite_bodies.specs.calls.Telling.{collected}
 use Rattle.rewrite_bodies.proofs.Sim.{len_of}
 use Rattle.rewrite_bodies.specs.calls.Standing.{Stands}
@@ -158,7 +158,7 @@ module _ (p : Program) (fit : Fits p) (d : ℕ) (deep : 0 < d) (low : d ≤ 1000
   seven j le ne = omega (arith, le, ne)
 
   pub world_alike : (c c' : Config) (up : ℕ) → c'.world ≡ flagged M c.world (values.I32 up) → SameState (Some c) (Some c')
-  world_alike c c' up e = (ap (λ w. w.memory) e, ap (λ w. take (length c.world.globals) w.globals) e ∙ take-append_seam c.world.globals (values.I32 up ∷ values.I64 (byte_count c.world.memory) ∷ []))
+  world_alike c c' up e = (ap (λ w. w.memory) e, ap (λ w. take (length c.world.globals) w.globals) e ∙ take-append_seam c.world.globals (values.I32 up ∷ values.I64 (told_length c.world.memory) ∷ []))
 
   frames_some : (wr : Option ValType) (Fs : List Frame) (ws : List Wit) → FitsTop M E gl wr Fs ws → 0 < length Fs
   frames_some wr [] ws h = absurd h

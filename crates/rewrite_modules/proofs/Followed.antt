@@ -6,7 +6,7 @@ use Rattle.wasm_syntax.specs.Module.{Program}
 use Rattle.wasm_syntax.specs.Machine.{Config, Engine, Stepped, next, ends, traps, no_reply, bad_reply, stuck}
 use Rattle.wasm_syntax.specs.Run.{Ran, trapped, running, ran_to, not_begun, Cause}
 use Rattle.wasm_laws.specs.calls.Runs.{with_more}
-use Rattle.rewrite_bodies.specs.calls.Agreement.{byte_count, flagged}
+use Rattle.rewrite_bodies.specs.calls.Agreement.{told_length, flagged}
 use Rattle.rewrite_bodies.proofs.Measures.{get_first}
 use Rattle.pm_text.proofs.Lists.{some_is}
 use Rattle.rewrite_modules.specs.Simulates.{Alike, AllAlike}
@@ -59,7 +59,7 @@ not_begun_down flag c n k c1 e l = absurd (cc)
 -- a trap with the flag down
 pub lowered : (M : Engine) (flag : ℕ) (q : Bool) (j : ℕ) (c c' : Config) (left : ℕ) → flag ≡ length c.world.globals → c'.world ≡ flagged M c.world (values.I32 0) → Down flag (ran_to q (traps j c') left)
 lowered M flag q j c c' left fl e k c1 o l =
-    ap (λ x. slice_get x.world.globals flag) (sym (some_is l)) ∙ ap (λ w. slice_get w.globals flag) e ∙ get_first c.world.globals flag (values.I32 0) (values.I64 (byte_count c.world.memory) ∷ []) fl
+    ap (λ x. slice_get x.world.globals flag) (sym (some_is l)) ∙ ap (λ w. slice_get w.globals flag) e ∙ get_first c.world.globals flag (values.I32 0) (values.I64 (told_length c.world.memory) ∷ []) fl
 
 -- with fewer steps
 pub down_before : (p : Program) (flag : ℕ) (is : List Calling) (replies : List Reply) (d n m : ℕ) → n ≤ m → ((i : ℕ) (r : Ran) → slice_get (run_calls p true is replies d m) i ≡ Some r → Down flag r) → (i : ℕ) (r : Ran) → slice_get (run_calls p true is replies d n) i ≡ Some r → Down flag r

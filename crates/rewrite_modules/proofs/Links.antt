@@ -1,5 +1,5 @@
 -- The rewritten module has what the simulation asks for.
-use Rattle.std.proofs.Common.{◌≡◌, ℕ, zero, suc, ◌+◌, ◌-◌, ◌*◌, ◌<◌, ◌≤◌, ◌==◌, List, [], ◌∷◌, ◌++◌, length, map, Option, Some, None, Bool, true, false, nat_lt, refl, sym, ap, ◌∙◌, subst, subst₂, arith, length-append, ◌⊎◌, inl, inr, slice_get, option_map, if◌then◌else◌, ltb-true, lt-ltb, le-ltb, replicate, unwrap_or, true≢false}
+use Rattle.std.proofs.Common.{◌≡◌, ℕ, zero, suc, ◌+◌, ◌-◌, ◌*◌, ◌<◌, ◌≤◌, ◌==◌, List, [], ◌∷◌, ◌++◌, length, map, Option, Some, None, Bool, true, false, nat_lt, refl, sym, ap, ◌∙◌, subst, subst₂, arith, length-append, append-nil, ◌⊎◌, inl, inr, slice_get, option_map, if◌then◌else◌, ltb-true, lt-ltb, le-ltb, replicate, unwrap_or, true≢false}
 use Rattle.wasm_syntax.specs.declared.value.ValType.{ValType}
 use Rattle.wasm_syntax.specs.declared.value.ValType.TheVariants.{I32, I64}
 use Rattle.wasm_syntax.specs.declared.value.Value.{Value}
@@ -64,8 +64,7 @@ pub declared-append : (a b : List _) → declared_locals (a ++ b) ≡ declared_l
 declared-append a b = flat_map-append (λ g. replicate g.count g.vtype) a b
 
 pub declared-groups : (n : ℕ) → declared_locals (groups n) ≡ added n
-declared-groups zero = refl
-declared-groups (suc n) = ap (λ z. I32 ∷ I64 ∷ z) (declared-groups n)
+declared-groups n = ap (λ (z : List ValType). replicate (n + 3) I32 ++ z) (append-nil (replicate (n + 1) I64))
 
 -- ---- the functions of a program
 

@@ -1,7 +1,10 @@
 -- The rewritten module is within the limits of the decoder on locals, nesting, table and memory.
-use Rattle.std.proofs.Common.{◌≡◌, ℕ, zero, suc, ◌+◌, ◌*◌, ◌≤◌, List, [], ◌∷◌, ◌++◌, length, map, Option, Some, None, Bool, true, false, if◌then◌else◌, refl, sym, ap, subst, arith, slice_get, leb-true, length-append}
+use Rattle.std.proofs.Common.{◌≡◌, ℕ, suc, ◌+◌, ◌*◌, ◌≤◌, List, [], ◌∷◌, ◌++◌, length, map, Option, Some, None, Bool, true, false, if◌then◌else◌, refl, sym, ap, subst, arith, slice_get, leb-true, length-append, replicate}
+use Rattle.std.proofs.lemmas.List.{length-replicate}
 use Rattle.std.specs.Prelude.{sum}
 use Rattle.std.specs.List.{AllByRecursion}
+use Rattle.wasm_syntax.specs.declared.value.ValType.{ValType}
+use Rattle.wasm_syntax.specs.declared.value.ValType.TheVariants.{I32, I64}
 use Rattle.wasm_syntax.specs.declared.parts.FuncType.{FuncType}
 use Rattle.wasm_syntax.specs.declared.parts.Body.{Body}
 use Rattle.wasm_syntax.specs.declared.module.ModuleParts.{ModuleParts as Module}
@@ -30,8 +33,8 @@ use Rattle.rewrite_modules.proofs.Depths.{low_body, low_wrapper, low_helper, bod
 use Rattle.wasm_syntax.proofs.Bodies.{tree_there, declared_length}
 
 length-added : (n : ℕ) → length (added n) ≡ 2 * n + 4
-length-added zero = refl
-length-added (suc n) = omega (arith, length-added n)
+length-added n =
+    omega (arith, length-append (replicate (n + 3) I32) (replicate (n + 1) I64), length-replicate {A = ValType} (n + 3) I32, length-replicate {A = ValType} (n + 1) I64)
 
 pub type_in : (m : Module) (f : ℕ) (type : FuncType) → type_at m f ≡ Some type → (t : ℕ) × (slice_get m.types t ≡ Some type)
 type_in m f type e = inside (slice_get (function_types m) f) e

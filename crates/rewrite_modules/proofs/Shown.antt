@@ -102,19 +102,19 @@ len_labels C l ex a [] [] co h = omega arith
 len_labels C l ex a [] (_ ∷ _) co h = absurd h
 len_labels C l ex a (L ∷ Ls) [] co h = absurd h
 len_labels C l ex a (L ∷ Ls) (e ∷ ss) co h =
-    omega (arith, len_ops L.operands (tell_labels Ls co), holds_len l ex (joined ss) e L.operands h.0, len_labels C [] ex (awaits (pending L.kind)) Ls ss co h.4, length-append e (joined ss))
+    omega (arith, len_ops L.operands (tell_labels Ls co), holds_len C l ex (joined ss) e L.operands h.0, len_labels C [] ex (awaits (pending L.kind)) Ls ss co h.4, length-append e (joined ss))
 
 -- of the operands of a label of which all but the topmost are kept
-len_but : (p : Bool) (l ex : List Value) (js e : List Place) (ops : List Value) → HoldsBut p l ex js ops e → length ops ≡ length e
-len_but false l ex js e ops h = holds_len l ex js e ops h
-len_but true l ex js [] [] h = refl
-len_but true l ex js [] (v ∷ ops) h = absurd h
-len_but true l ex js (e ∷ es) [] h = absurd h
-len_but true l ex js (e ∷ es) (v ∷ ops) h = ap suc (holds_len l ex js es ops h.1)
+len_but : (C : Ctx) (p : Bool) (l ex : List Value) (js e : List Place) (ops : List Value) → HoldsBut C p l ex js ops e → length ops ≡ length e
+len_but C false l ex js e ops h = holds_len C l ex js e ops h
+len_but C true l ex js [] [] h = refl
+len_but C true l ex js [] (v ∷ ops) h = absurd h
+len_but C true l ex js (e ∷ es) [] h = absurd h
+len_but C true l ex js (e ∷ es) (v ∷ ops) h = ap suc (holds_len C l ex js es ops h.1)
 
 len_open : (C : Ctx) (l ex : List Value) (a : Option (Option ValType)) (L : Label) (Ls : List Label) (e : List Place) (ss : List (List Place)) (co : List CollectorCall) → FitsOpen C l ex a (L ∷ Ls) (e ∷ ss) → (length (tell_labels (L ∷ Ls) co) ≡ length (joined (e ∷ ss)) + length co) × (length (e ++ joined ss) ≤ C.slots)
 len_open C l ex None L Ls e ss co h = (
-  omega (arith, len_ops L.operands (tell_labels Ls co), len_but (passes C L.nodes) l ex (joined ss) e L.operands h.0, len_labels C [] ex (awaits (pending L.kind)) Ls ss co h.4, length-append e (joined ss)),
+  omega (arith, len_ops L.operands (tell_labels Ls co), len_but C (passes C L.nodes) l ex (joined ss) e L.operands h.0, len_labels C [] ex (awaits (pending L.kind)) Ls ss co h.4, length-append e (joined ss)),
   room_height C (e ++ joined ss) L.nodes h.2,
 )
 len_open C l ex (Some a) L Ls e ss co h =

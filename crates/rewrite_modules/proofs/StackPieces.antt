@@ -26,7 +26,7 @@ use Rattle.wasm_syntax.specs.Run.{table_min}
 use Rattle.rewrite_bodies.specs.Numbering.{import_count, mapped, value_import, frame_import, flag_of, value_type, frame_type, doubles}
 use Rattle.rewrite_bodies.specs.calls.Slots.{Place, Spilled, Known, Copied, place_type, Ctx, slot, kind_at, offset_at, less, pushed, grown, uncopied, under, result_type, result_place, freed, after_plain, Landing, local_written}
 use Rattle.rewrite_bodies.specs.calls.Pieces.{get, set, const, i32, call, if_any, fetch, load, keep_slot, keep, store, reload, spill_one, spill, drops}
-use Rattle.rewrite_bodies.specs.calls.Guards.{guard, can_trap, least, minus_one, past_end, out_test, range_test, guard_zero, guard_signed, guard_memory, kind, helper, helper_type, length_of, get_length, set_length, renewed, renew}
+use Rattle.rewrite_bodies.specs.calls.Guards.{guard, can_trap, least, minus_one, less_word, past_end, beyond_word, out_test, range_test, guard_zero, guard_signed, guard_memory, kind, helper, helper_type, length_of, get_length, set_length, renewed, renew}
 use Rattle.rewrite_bodies.specs.calls.Rewrite.{hand_value, hand, hand_top, to_exit, unwind, test_flag, hand_left, test_both, unwind_kind, tested, guarded, passes, free, plain, with_result, after_direct, call_code, helper_of, past_shown, indirect_code, rewrite, hand_locals, raise_flag, zero_result, exit_code, body, checked, get_flag, hand_carried, landing_code, nested, laid, free_at, grows, lengthened}
 use Rattle.rewrite_bodies.specs.calls.Typed.{Info, in_block, in_loop, in_body, Offers, original}
 use Rattle.rewrite_bodies.specs.calls.Agreement.{Room_call, Room}
@@ -48,8 +48,12 @@ module _ (m : Module) (N : ℕ) where
   set_under src b k r u =
       let k1 = basic 0 (GlobalSet (length_of src)) k in
       let u1 : Under m N (suc b) k1 = one_under (suc b) (GlobalSet (length_of src)) b k (omega (arith, r)) (omega arith) u in
-      let k2 = basic 0 (Binary I64 Shl) k1 in
-      let u2 : Under m N (suc (suc b)) k2 = one_under (suc (suc b)) (Binary I64 Shl) (suc b) k1 (omega (arith, r)) (omega arith) u1 in
+      let k6 = basic 0 (Binary I64 Sub) k1 in
+      let u6 : Under m N (suc (suc b)) k6 = one_under (suc (suc b)) (Binary I64 Sub) (suc b) k1 (omega (arith, r)) (omega arith) u1 in
+      let k5 = const (values.I64 4) k6 in
+      let u5 : Under m N (suc b) k5 = one_under (suc b) (Const (values.I64 4)) (suc (suc b)) k6 (omega (arith, r)) (omega arith) u6 in
+      let k2 = basic 0 (Binary I64 Shl) k5 in
+      let u2 : Under m N (suc (suc b)) k2 = one_under (suc (suc b)) (Binary I64 Shl) (suc b) k5 (omega (arith, r)) (omega arith) u5 in
       let k3 = const (values.I64 16) k2 in
       let u3 : Under m N (suc b) k3 = one_under (suc b) (Const (values.I64 16)) (suc (suc b)) k2 (omega (arith, r)) (omega arith) u2 in
       let k4 = basic 0 (Convert ExtendU) k3 in
@@ -90,7 +94,7 @@ module _ (C : Ctx) (m : Module) (locals : List ValType) (off : Offers C m locals
   u_const h v k le u = u_basic h (Const v) (suc h) k le (omega arith) u
 
   u_fetch : (h : ℕ) (e : Place) (x : ℕ) (k : Nodes) → h ≤ N → U (suc h) k → U h (fetch C e x k)
-  u_fetch h (Spilled t) x k le u = u_get h (slot t x) k le u
+  u_fetch h (Spilled t) x k le u = u_get h (slot C.slots t x) k le u
   u_fetch h (Known v) x k le u = u_const h v k le u
   u_fetch h (Copied t y) x k le u = u_basic h (LocalGet y) (suc h) k le (omega arith) u
 
@@ -102,15 +106,15 @@ module _ (C : Ctx) (m : Module) (locals : List ValType) (off : Offers C m locals
 
   u_store : (b : ℕ) (r : Option ValType) (es : List Place) (k : Nodes) → suc b ≤ N → U b k → U (length (option_to_list r) + b) (store C r es k)
   u_store b None es k le u = fewer m N k b (0 + b) (omega arith) u
-  u_store b (Some t) es k le u = fewer m N (set C (slot t (length es)) k) (suc b) (1 + b) (omega arith) (u_set b (slot t (length es)) k le u)
+  u_store b (Some t) es k le u = fewer m N (set C (slot C.slots t (length es)) k) (suc b) (1 + b) (omega arith) (u_set b (slot C.slots t (length es)) k le u)
 
   u_reload : (b : ℕ) (r : Option ValType) (es : List Place) (k : Nodes) → suc b ≤ N → U (length (option_to_list r) + b) k → U b (reload C r es k)
   u_reload b None es k le u = fewer m N k (0 + b) b (omega arith) u
-  u_reload b (Some t) es k le u = u_get b (slot t (length es)) k (omega (arith, le)) (fewer m N k (1 + b) (suc b) (omega arith) u)
+  u_reload b (Some t) es k le u = u_get b (slot C.slots t (length es)) k (omega (arith, le)) (fewer m N k (1 + b) (suc b) (omega arith) u)
 
   u_tee : (pass : Bool) (b : ℕ) (t : ValType) (es : List Place) (k : Nodes) → suc b ≤ N → U (suc b) k → U (suc b) (keep_slot pass C t es k)
   u_tee true b t es k le u = u
-  u_tee false b t es k le u = u_basic (suc b) (LocalTee (length C.locals + slot t (length es))) (suc b) k le (omega arith) u
+  u_tee false b t es k le u = u_basic (suc b) (LocalTee (length C.locals + slot C.slots t (length es))) (suc b) k le (omega arith) u
 
   u_one : (pass : Bool) (b : ℕ) (e : Place) (es : List Place) (k : Nodes) → suc b ≤ N → U (suc b) k → U (suc b) (keep pass C (Some e) es k)
   u_one pass b (Spilled t) es k le u = u_tee pass b t es k le u
@@ -125,8 +129,8 @@ module _ (C : Ctx) (m : Module) (locals : List ValType) (off : Offers C m locals
   u_drops b zero k le u = fewer m N k b (0 + b) (omega arith) u
   u_drops b (suc n) k le u = u_basic (suc n + b) Drop (n + b) (drops n k) le (omega arith) (u_drops b n k (omega (arith, le)) u)
 
-  u_one_spilled : (b : ℕ) (q : Bool) (t : ValType) (x h : ℕ) (k : Nodes) → suc b ≤ N → U b k → U b (if q then basic 0 (LocalGet x) (set C (slot t h) k) else k)
-  u_one_spilled b true t x h k le u = u_basic b (LocalGet x) (suc b) (set C (slot t h) k) (omega (arith, le)) (omega arith) (u_set b (slot t h) k le u)
+  u_one_spilled : (b : ℕ) (q : Bool) (t : ValType) (x h : ℕ) (k : Nodes) → suc b ≤ N → U b k → U b (if q then basic 0 (LocalGet x) (set C (slot C.slots t h) k) else k)
+  u_one_spilled b true t x h k le u = u_basic b (LocalGet x) (suc b) (set C (slot C.slots t h) k) (omega (arith, le)) (omega arith) (u_set b (slot C.slots t h) k le u)
   u_one_spilled b false t x h k le u = u
 
   u_spill_one : (b : ℕ) (these : ℕ → Bool) (e : Place) (h : ℕ) (k : Nodes) → suc b ≤ N → U b k → U b (spill_one C these e h k)
@@ -230,16 +234,26 @@ module _ (C : Ctx) (m : Module) (locals : List ValType) (off : Offers C m locals
   u_past : (b : ℕ) → b + 8 ≤ N → (k : Nodes) → U (suc b) k → U (suc b) (past_end C.source k)
   u_past b r k u =
       let k1 = basic 0 (Compare I64 GtU) k in
-      u_length (suc b) (omega (arith, r)) k1 (u_basic (suc (suc b)) (Compare I64 GtU) (suc b) k (omega (arith, r)) (omega arith) u)
+      let u1 : U (suc (suc b)) k1 = u_basic (suc (suc b)) (Compare I64 GtU) (suc b) k (omega (arith, r)) (omega arith) u in
+      let k2 = basic 0 (Binary I64 Add) k1 in
+      let u2 : U (suc (suc (suc b))) k2 = u_basic (suc (suc (suc b))) (Binary I64 Add) (suc (suc b)) k1 (omega (arith, r)) (omega arith) u1 in
+      let k3 = const (values.I64 4) k2 in
+      u_length (suc b) (omega (arith, r)) k3 (u_const (suc (suc b)) (values.I64 4) k2 (omega (arith, r)) u2)
+
+  -- so many bytes in place of four
+  u_beyond : (q : Bool) (b : ℕ) → b + 8 ≤ N → (n : ℕ) (k : Nodes) → U (suc (suc b)) k → U (suc (suc b)) (beyond_word q n k)
+  u_beyond true b r n k u = u
+  u_beyond false b r n k u =
+      let k2 = basic 0 (Binary I64 Sub) k in
+      let u2 : U (suc (suc (suc b))) k2 = u_basic (suc (suc (suc b))) (Binary I64 Sub) (suc (suc b)) k (omega (arith, r)) (omega arith) u in
+      u_const (suc (suc b)) (values.I64 (less_word n)) k2 (omega (arith, r)) u2
 
   u_memory : (b : ℕ) → Roomy b → (a : Place) (h n : ℕ) (k : Nodes) → U (suc b) k → U b (guard_memory C a h n k)
   u_memory b r a h n k u =
       let k1 = basic 0 (Compare I64 GtS) k in
       let u1 : U (suc (suc b)) k1 = u_basic (suc (suc b)) (Compare I64 GtS) (suc b) k (omega (arith, r)) (omega arith) u in
-      let k2 = basic 0 (Binary I64 Sub) k1 in
-      let u2 : U (suc (suc (suc b))) k2 = u_basic (suc (suc (suc b))) (Binary I64 Sub) (suc (suc b)) k1 (omega (arith, r)) (omega arith) u1 in
-      let k3 = const (values.I64 n) k2 in
-      let u3 : U (suc (suc b)) k3 = u_const (suc (suc b)) (values.I64 n) k2 (omega (arith, r)) u2 in
+      let k3 = beyond_word (n == 4) n k1 in
+      let u3 : U (suc (suc b)) k3 = u_beyond (n == 4) b (omega (arith, r)) n k1 u1 in
       let u4 : U (suc b) (get_length C.source k3) = u_length (suc b) (omega (arith, r)) k3 u3 in
       u_fetch b a h (out_test C.source n k) (omega (arith, r)) (u_basic (suc b) (Convert ExtendU) (suc b) (get_length C.source k3) (omega (arith, r)) (omega arith) u4)
 

@@ -7,10 +7,11 @@ use Rattle.wasm_syntax.specs.Module.{Program, const_value, const_code, function_
 use Rattle.wasm_syntax.specs.declared.host.Reply.{Reply}
 use Rattle.wasm_syntax.specs.Machine.{zero_of}
 use Rattle.rewrite_bodies.specs.Numbering.{import_count, mapped, shown, doubles, new_entries, table_wraps, named_wrapped, wrapped, wrapper_base, export_wrapped, start_wraps, wraps}
+use Rattle.rewrite_bodies.specs.calls.Guards.{less_word}
 use Rattle.rewrite_bodies.proofs.Doubled.{over_len, AllTrue, start_long, segments_fit}
 use Rattle.linear_memory.specs.Memory.{Memory}
 use Rattle.std.proofs.lemmas.List.{length-map, length-replicate, map-append}
-use Rattle.rewrite_bodies.specs.calls.Agreement.{byte_count, flagged}
+use Rattle.rewrite_bodies.specs.calls.Agreement.{byte_count, told_length, flagged}
 use Rattle.wasm_syntax.specs.Run.{start_table, engine, i32_or_zero, first_false, table_min, empty_memory, memory_bytes, globals_at_start, element_at, data_at, element_fits, data_fits, start_memory, start_world, by_data, by_element, cause_of_segments}
 use Rattle.std.specs.Prelude.{flat_map, bytes_eq, fold, find, cond}
 use Rattle.rewrite_modules.specs.Collector.{memory_export}
@@ -136,15 +137,15 @@ module _ (p : Program) where
   abbrev bytes : ℕ
   bytes = 65536 * memory_min m.memories
 
-  globals_start : globals_at_start m' ≡ globals_at_start m ++ values.I32 0 ∷ values.I64 bytes ∷ []
+  globals_start : globals_at_start m' ≡ globals_at_start m ++ values.I32 0 ∷ values.I64 (less_word bytes) ∷ []
   globals_start = map-append (λ g. unwrap_or (const_value [] g.init.ops) (zero_of g.vtype)) m.globals _
 
   -- an offset of the module is the same in both
   offset_same : (b : Body) → i32_or_zero (const_value (globals_at_start m') b.ops) ≡ i32_or_zero (const_value (globals_at_start m) b.ops)
-  offset_same b = ap (λ gs. i32_or_zero (const_value gs b.ops)) globals_start ∙ const_more (globals_at_start m) bytes b.ops
+  offset_same b = ap (λ gs. i32_or_zero (const_value gs b.ops)) globals_start ∙ const_more (globals_at_start m) (less_word bytes) b.ops
 
   data_same : (s : DataSeg) → data_at m' s ≡ data_at m s
-  data_same s = ap (λ gs. i32_or_zero (const_value gs s.offset.ops)) globals_start ∙ const_more (globals_at_start m) bytes s.offset.ops
+  data_same s = ap (λ gs. i32_or_zero (const_value gs s.offset.ops)) globals_start ∙ const_more (globals_at_start m) (less_word bytes) s.offset.ops
 
   some_map : (h : ℕ → ℕ) (fs : List ℕ) → map Some (map h fs) ≡ map (go h) (map Some fs)
   some_map h [] = refl
@@ -231,7 +232,7 @@ module _ (p : Program) where
 
   pub world_start : (d : ℕ) (replies : List Reply) → byte_count (start_memory m) ≡ bytes → start_world m' replies ≡ flagged (engine p false d) (start_world m replies) (values.I32 0)
   world_start d replies measured =
-      let all : globals_at_start m' ≡ globals_at_start m ++ values.I32 0 ∷ values.I64 (byte_count (start_memory m)) ∷ [] = globals_start ∙ ap (λ (n : ℕ). globals_at_start m ++ values.I32 0 ∷ values.I64 n ∷ []) (sym measured) in
+      let all : globals_at_start m' ≡ globals_at_start m ++ values.I32 0 ∷ values.I64 (told_length (start_memory m)) ∷ [] = globals_start ∙ ap (λ (n : ℕ). globals_at_start m ++ values.I32 0 ∷ values.I64 (less_word n) ∷ []) (sym measured) in
       λ i. record { globals = all i; memory = memory_start i; table = table_start i; replies = replies; served = [] }
 
   -- ---- the segments fit in both

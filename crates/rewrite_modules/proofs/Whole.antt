@@ -24,7 +24,7 @@ use Rattle.rewrite_bodies.specs.calls.Guards.{renew}
 use Rattle.std.proofs.lemmas.List.{length-map, reverse-append, reverse-reverse, length-reverse}
 use Rattle.rewrite_bodies.specs.calls.Steps.{went, run, Gets, To, Shell, st}
 use Rattle.rewrite_bodies.proofs.Run.{still, one_step, seq, weaken, push_to, get_to}
-use Rattle.rewrite_bodies.specs.calls.Agreement.{Wit, byte_count, WorldFits, FitsConfig, Wrap, w_frame, zero_vs, last_of, flagged, image}
+use Rattle.rewrite_bodies.specs.calls.Agreement.{Wit, told_length, WorldFits, FitsConfig, Wrap, w_frame, zero_vs, last_of, flagged, image}
 use Rattle.rewrite_bodies.proofs.Parts.{step_plain}
 use Rattle.rewrite_bodies.proofs.Passing.{loosened}
 use Rattle.dump_write.specs.Collected.{value_call}
@@ -144,7 +144,7 @@ module _ (M M' : Engine) (E : ℕ) (gl : List ValType) (S : Stands M M' E gl) (g
       let X1 = armed X stop zs in
       let g1 = flagged M g (values.I32 1) in
       let n = length m.globals in
-      let bytes = values.I64 (byte_count g.memory) ∷ [] in
+      let bytes = values.I64 (told_length g.memory) ∷ [] in
       let fl = flag_at g wf in
       let ty = wf.globals ∙ gm in
       let g0 = flagged M g (values.I32 0) in
@@ -169,7 +169,7 @@ module _ (M M' : Engine) (E : ℕ) (gl : List ValType) (S : Stands M M' E gl) (g
   good_end W vs g co wr wf x =
       let X : Shell = record { idx = W.idx; result = W.result; kind = returns W.result; below = []; frames = [] } in
       let g0 = flagged M g (values.I32 0) in
-      let s1 : To M' 1 1 (st X W.locals vs (after_wrapped m) g0 co) (st X W.locals (values.I32 0 ∷ vs) (if_any (end_of_dump m) stop) g0 co) = step_plain M' (GlobalGet (flag_of m)) [] vs W.locals g0 (values.I32 0 ∷ []) (values.I32 0 ∷ vs) refl (rw (get_first g.globals (flag_of m) (values.I32 0) (values.I64 (byte_count g.memory) ∷ []) (flag_at g wf)) refl) refl in
+      let s1 : To M' 1 1 (st X W.locals vs (after_wrapped m) g0 co) (st X W.locals (values.I32 0 ∷ vs) (if_any (end_of_dump m) stop) g0 co) = step_plain M' (GlobalGet (flag_of m)) [] vs W.locals g0 (values.I32 0 ∷ []) (values.I32 0 ∷ vs) refl (rw (get_first g.globals (flag_of m) (values.I32 0) (values.I64 (told_length g.memory) ∷ []) (flag_at g wf)) refl) refl in
       let s3 : Gets M' 1 1 (st X W.locals vs stop g0 co) (ends g0 vs co) = one_step M' _ _ (rw x refl) in
       rw (wr, append-nil) (weaken M' (seq M' s1 (seq M' (if_zero_to M') s3)) (omega arith) (omega arith))
 
@@ -211,7 +211,7 @@ module _ (M M' : Engine) (E : ℕ) (gl : List ValType) (S : Stands M M' E gl) (g
     target = config (entered wi wb wtree type args ∷ []) (flagged M g (values.I32 up)) []
 
     pub fits : FitsConfig M E gl W.result source (w0 ∷ [])
-    fits = (wf, (record { size = types-locals args type.params (declared_locals b.groups) ty; room = zero_types (added k.slots); idx = refl; result = refl; funcs = refl; base = refl; helpers = refl; flag = sym gm; small = k.small; exposed = ap (λ q. exposed_in m.memories (nodes_of q)) (sym at); narrow = k.narrow; labels = (loosened (passes D tree.nodes) (args ++ zeros (declared_locals b.groups)) (zeros (added k.slots)) [] [] [] tt, tt, room_landed C (exposed_in m.memories tree.nodes) (landings_from (landed C (exposed_in m.memories tree.nodes) []) [] tree.nodes []) [] tree.nodes k.room, refl, tt); no_kind = tt }, refl), begins_known M f b tree type args g [] at wf.least)
+    fits = (wf, (record { size = types-locals args type.params (declared_locals b.groups) ty; room = zero_types (added k.slots); idx = refl; result = refl; funcs = refl; base = refl; helpers = refl; flag = sym gm; small = k.small; exposed = ap (λ q. exposed_in m.memories (nodes_of q)) (sym at); narrow = k.narrow; labels = (loosened D (passes D tree.nodes) (args ++ zeros (declared_locals b.groups)) (zeros (added k.slots)) [] [] [] tt, tt, room_landed C (exposed_in m.memories tree.nodes) (landings_from (landed C (exposed_in m.memories tree.nodes) []) [] tree.nodes []) [] tree.nodes k.room, refl, tt); no_kind = tt }, refl), begins_known M f b tree type args g [] at wf.least)
 
     pub begin : To M' 1 (length type.params + 38) target (image M W source (w0 ∷ []))
     begin =
@@ -221,14 +221,14 @@ module _ (M M' : Engine) (E : ℕ) (gl : List ValType) (S : Stands M M' E gl) (g
         let g0 = flagged M g (values.I32 0) in
         let kc = call (mapped m f) (after_wrapped m) in
         let kg = get_all 0 (length type.params) kc in
-        let bytes = values.I64 (byte_count g.memory) ∷ [] in
+        let bytes = values.I64 (told_length g.memory) ∷ [] in
         let ex = zeros (added k.slots) in
         let len : n ≡ length args = len_of args type.params ty in
         let fl = flag_at g wf in
         let noted : entered wi wb wtree type args ≡ frame wi (result_of type) 0 args (label [] wtree.nodes 0 (returns (result_of type)) ∷ []) = ap (λ z. frame wi (result_of type) 0 z (label [] wtree.nodes 0 (returns (result_of type)) ∷ [])) (ap (λ z. args ++ zeros z) none ∙ append-nil args) in
         let s1 : To M' 1 1 (st X args [] wtree.nodes gu []) (st X args (values.I32 0 ∷ []) (basic 0 (GlobalSet (flag_of m)) (renew m kg)) gu []) = push_to M' (values.I32 0) in
         let s2 : To M' 1 1 (st X args (values.I32 0 ∷ []) (basic 0 (GlobalSet (flag_of m)) (renew m kg)) gu []) (st X args [] (renew m kg) g0 []) = step_plain M' (GlobalSet (flag_of m)) (values.I32 0 ∷ []) [] args g0 [] [] refl (rw (get_first g.globals (flag_of m) (values.I32 up) bytes fl, put_first g.globals (flag_of m) (values.I32 up) (values.I32 0) bytes fl) refl) refl in
-        let s2b : To M' 0 5 (st X args [] (renew m kg) g0 []) (st X args [] kg g0 []) = renew_to M' M m X args [] kg g [] (values.I32 0) fl m.memories wf.least wf.memory in
+        let s2b : To M' 0 7 (st X args [] (renew m kg) g0 []) (st X args [] kg g0 []) = renew_to M' M m X args [] kg g [] (values.I32 0) fl m.memories wf.least wf.memory in
         let s3 : To M' 0 n (st X args [] (get_all 0 n kc) g0 []) (st X args (reverse args) kc g0 []) =
         subst₂ (λ n a. To M' 0 n (st X args [] (get_all 0 n kc) g0 []) (st X args a kc g0 [])) (sym len) (back_is args [] ∙ append-nil (reverse args)) (gets_to M' args [] [] kc) in
         let caller = frame wi (result_of type) 0 args (label [] (after_wrapped m) 0 (returns (result_of type)) ∷ []) in

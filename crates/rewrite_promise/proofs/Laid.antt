@@ -28,7 +28,7 @@ use Rattle.wasm_syntax.specs.Run.{table_min, element_at}
 use Rattle.rewrite_bodies.specs.Numbering.{import_count, mapped, wraps, wrapped, doubles, helped}
 use Rattle.rewrite_bodies.specs.calls.Slots.{groups, slots_of}
 use Rattle.rewrite_bodies.specs.calls.Pieces.{i32}
-use Rattle.rewrite_bodies.specs.calls.Guards.{helper}
+use Rattle.rewrite_bodies.specs.calls.Guards.{less_word, helper}
 use Rattle.wasm_syntax.specs.SameCode.{op_code, body_code, global_code, element_code, code_alone}
 use Rattle.rewrite_modules.specs.calls.FlatCode.{targets_in, op, else_op, ops_in, body_of}
 use Rattle.rewrite_modules.specs.Collector.{memory_export}
@@ -304,7 +304,7 @@ module _ (p : Program) where
         write = trees.1;
         in_order = all_in_order (new_module p).bodies (bodies_take p);
         as_many = as_many whole.as_many;
-        globals = all_append (λ g. IsExpression g.init) m.globals (numbered flag_global ∷ numbered (length_global m) ∷ []) whole.globals (number_is 0, (value_is (values.I64 (65536 * memory_min m.memories)), tt));
+        globals = all_append (λ g. IsExpression g.init) m.globals (numbered flag_global ∷ numbered (length_global m) ∷ []) whole.globals (number_is 0, (value_is (values.I64 (less_word (65536 * memory_min m.memories))), tt));
         elements = expressions m whole.elements;
         segments = whole.segments;
         import_modules = all_append (λ i. IsUtf8 i.«module») m.imports _ whole.import_modules (utf8_collector, (utf8_collector, (utf8_collector, tt)));

@@ -88,7 +88,7 @@ dump_short m few =
     let n : length (global_types m) ≡ length m.globals = length-map m.globals (λ g. g.vtype) in
     omega (arith, a, b, c, d, e, f, g, h, n)
 
-wrapper_short : (m : Module) (f : ℕ) → import_count m < 268435450 → code_length (wrapper m f) ≤ 103 + 16 * parameter_count (type_at m f) + 16 * length m.globals
+wrapper_short : (m : Module) (f : ℕ) → import_count m < 268435450 → code_length (wrapper m f) ≤ 106 + 16 * parameter_count (type_at m f) + 16 * length m.globals
 wrapper_short m f few =
     let n = parameter_count (type_at m f) in
     let k1 = after_wrapped m in
@@ -104,8 +104,8 @@ wrapper_short m f few =
     let g = dump_short m few in
     omega (arith, a, b, c, d, e, g, h)
 
--- a wrapper's entry takes what the weight gives to an entry, but for 13 bytes
-pub wrapper_entry : (m : Module) (f : ℕ) → import_count m < 268435450 → 13 + length (entry_bytes (body_of [] (wrapper m f))) ≤ 128 + 16 * parameter_count (type_at m f) + 16 * length m.globals
+-- a wrapper's entry takes what the weight gives to an entry, but for 10 bytes
+pub wrapper_entry : (m : Module) (f : ℕ) → import_count m < 268435450 → 10 + length (entry_bytes (body_of [] (wrapper m f))) ≤ 128 + 16 * parameter_count (type_at m f) + 16 * length m.globals
 wrapper_entry m f few =
     let a = plain_entry (wrapper m f) in
     let b = wrapper_short m f few in
@@ -166,27 +166,18 @@ helper_entry m t =
 
 -- ---- rewritten bodies
 
-groups_length : (n : ℕ) → length (groups n) ≡ 2 * n + 4
-groups_length zero = refl
-groups_length (suc n) = omega (arith, groups_length n)
-
-group_two : (t : ValType) → length (group_bytes (group t)) ≤ 2
+group_few : (n : ℕ) (t : ValType) → length (group_bytes (group n t)) ≤ 2 + n / 128
 unfolding group_bytes value_type_bytes
-group_two t =
-    let a = length-append (unsigned_bytes 1) (value_type_bytes t) in
-    let b = single_byte 1 (omega arith) in
+group_few n t =
+    let a = length-append (unsigned_bytes n) (value_type_bytes t) in
+    let b = few_bytes n in
     omega (arith, a, b)
 
 added_total : (n : ℕ) → groups_total (groups n) ≤ 4 * n + 8
-added_total zero =
-    let a = group_two I32 in
-    let b = group_two I64 in
+added_total n =
+    let a = group_few (n + 3) I32 in
+    let b = group_few (n + 1) I64 in
     omega (arith, a, b)
-added_total (suc n) =
-    let a = group_two I32 in
-    let b = group_two I64 in
-    let c = added_total n in
-    omega (arith, a, b, c)
 
 pub group_some : (g : LocalGroup) → 1 ≤ length (group_bytes g)
 unfolding group_bytes
@@ -204,7 +195,7 @@ slots_entry old slots W nodes many short =
     let a = entry_total body in
     let b = ten_bytes (length (function_bytes body)) in
     let n = length (gs ++ groups slots) in
-    let n_is : n ≡ length gs + (2 * slots + 4) = omega (arith, length-append gs (groups slots), groups_length slots) in
+    let n_is : n ≡ length gs + 2 = omega (arith, length-append gs (groups slots)) in
     let c = few_bytes n in
     let d = total-append (λ g. length (group_bytes g)) gs (groups slots) in
     let e = added_total slots in

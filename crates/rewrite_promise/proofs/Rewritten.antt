@@ -211,7 +211,7 @@ fits =
         start = tt;
         elements = tt;
       };
-      bodies = (((lit< tt, (lit< tt, (lit< tt, (lit< tt, (lit< tt, (lit< tt, (lit< tt, (lit< tt, tt)))))))), expression_fits _ refl order.0 refl), ((tt, expression_fits _ refl order.1.0 refl), tt));
+      bodies = (((lit< tt, (lit< tt, tt)), expression_fits _ refl order.0 refl), ((tt, expression_fits _ refl order.1.0 refl), tt));
       segments = tt;
     }
 

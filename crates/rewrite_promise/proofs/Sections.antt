@@ -23,7 +23,7 @@ use Rattle.wasm_format_laws.proofs.Measures.{sized_length}
 use Rattle.wasm_format_laws.proofs.Sections.{lengths}
 use Rattle.rewrite_bodies.specs.Numbering.{import_count, mapped, wraps, shown, element_functions, doubles, value_type, frame_type}
 use Rattle.wasm_syntax.specs.Run.{table_min, element_at}
-use Rattle.rewrite_bodies.specs.calls.Guards.{helper_type}
+use Rattle.rewrite_bodies.specs.calls.Guards.{less_word, helper_type}
 use Rattle.wasm_syntax.specs.SameCode.{op_code, body_code, global_code, element_code, segment_code, code_alone}
 use Rattle.rewrite_modules.specs.Collector.{collector_import, memory_export}
 use Rattle.rewrite_modules.specs.calls.Instrument.{value_init, number_init, flag_global, memory_min, length_global, shown_element, shown_elements, inner_element, new_index, new_exports}
@@ -143,7 +143,7 @@ flag_length = refl
 length_length : (m : Module) → length (global_bytes (length_global m)) ≤ 14
 unfolding global_bytes instruction_bytes type_byte mutability_byte
 length_length m =
-    let n = 65536 * memory_min m.memories in
+    let n = less_word (65536 * memory_min m.memories) in
     let a = ten_signed (cast_signed w64 n) in
     let b = expression_total (value_init (values.I64 n)) in
     omega (arith, a, b)

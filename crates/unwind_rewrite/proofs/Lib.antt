@@ -2,7 +2,6 @@ pub mod Numbers
 pub mod Branching
 pub mod Calling
 pub mod Bodies
-pub mod Adding
 pub mod JumpLaws
 pub mod NodeLaws
 pub mod PointLaws

@@ -17,7 +17,7 @@ use Rattle.wasm_syntax.specs.Module.{function_types}
 use Rattle.wasm_syntax.specs.Run.{table_min, element_at}
 use Rattle.rewrite_bodies.specs.Numbering.{doubles, mapped, wrapped, value_type, frame_type}
 use Rattle.rewrite_bodies.specs.calls.Pieces.{i32}
-use Rattle.rewrite_bodies.specs.calls.Guards.{helper_type}
+use Rattle.rewrite_bodies.specs.calls.Guards.{less_word, helper_type}
 use Rattle.rewrite_modules.specs.Collector.{collector_import, memory_export}
 use Rattle.rewrite_modules.specs.calls.Instrument.{memory_min, new_exports, new_start, shown_elements, wrapper_type}
 use Rattle.rewrite_modules.specs.Interface.{new_tables}
@@ -42,12 +42,12 @@ value_code v = record {
 abbrev pub number_code : ℕ → Body
 number_code n = value_code (i32 n)
 
--- the flag, and the length of the memory
+-- the flag, and the global that tells the length of the memory
 abbrev pub flag : Global
 flag = record { vtype = I32; mutable = true; init = number_code 0 }
 
 abbrev pub measure : Module → Global
-measure m = record { vtype = I64; mutable = true; init = value_code (values.I64 (65536 * memory_min m.memories)) }
+measure m = record { vtype = I64; mutable = true; init = value_code (values.I64 (less_word (65536 * memory_min m.memories))) }
 
 -- the functions of an element are functions of the module
 abbrev pub ElementThere : Module → ElementSeg → Type 0

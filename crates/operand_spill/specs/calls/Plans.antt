@@ -50,7 +50,7 @@ IsAdded plan Offset = Unit {0}
 
 -- its place among all locals of the rewritten function
 abbrev pub number : Planned → AddedLocal → ℕ
-number plan (Slot t height) = length plan.locals + slot t height
-number plan (Result t) = length plan.locals + slot t plan.slots
-number plan Kind = length plan.locals + (2 * plan.slots + 2)
-number plan Offset = length plan.locals + (2 * plan.slots + 3)
+number plan (Slot t height) = length plan.locals + slot plan.slots t height
+number plan (Result t) = length plan.locals + slot plan.slots t plan.slots
+number plan Kind = length plan.locals + (plan.slots + 1)
+number plan Offset = length plan.locals + (plan.slots + 2)

@@ -6,7 +6,7 @@ use Rattle.wasm_syntax.specs.Numbers.{type_of, types}
 use Rattle.wasm_syntax.specs.Tree.{Nodes, basic, Jump, Unreachable, Br, BrIf, BrTable, Return, Call, CallIndirect, stop, jump, block, loop, choose}
 use Rattle.wasm_syntax.specs.Host.{World}
 use Rattle.wasm_syntax.specs.Machine.{Kind, Label, Frame, Config, label, frame, config, Engine, leaves, again, returns, zero_of, result_of}
-use Rattle.rewrite_bodies.specs.calls.Guards.{first_table, length_of, renew}
+use Rattle.rewrite_bodies.specs.calls.Guards.{first_table, less_word, length_of, renew}
 use Rattle.rewrite_bodies.specs.calls.Slots.{Place, Spilled, Known, Copied, place_type, Ctx, slot, kind_at, added, less, grown, under, result_type, after_plain, greatest, Landing}
 use Rattle.rewrite_bodies.specs.calls.Pieces.{store, reload, drops}
 use Rattle.wasm_syntax.specs.declared.value.Value.TheVariants as values
@@ -21,25 +21,25 @@ use Rattle.rewrite_bodies.specs.calls.Facts.{exposed_in}
 use Rattle.rewrite_bodies.specs.calls.Known.{HasLeast, nodes_in, KnownConfig}
 
 -- the operand is in its slot besides, or is the constant, or in the local
-abbrev pub One : List Value → List Value → ℕ → Place → Value → Type 0
-One l ex h (Spilled t) v = (slice_get ex (slot t h) ≡ Some v) × (type_of v ≡ t)
-One l ex h (Known w) v = w ≡ v
-One l ex h (Copied t x) v = (slice_get l x ≡ Some v) × (type_of v ≡ t)
+abbrev pub One : Ctx → List Value → List Value → ℕ → Place → Value → Type 0
+One C l ex h (Spilled t) v = (slice_get ex (slot C.slots t h) ≡ Some v) × (type_of v ≡ t)
+One C l ex h (Known w) v = w ≡ v
+One C l ex h (Copied t x) v = (slice_get l x ≡ Some v) × (type_of v ≡ t)
 
 -- so are all of a label's, above these places
-abbrev pub Holds : List Value → List Value → List Place → List Value → List Place → Type 0
-Holds l ex js [] [] = Unit {0}
-Holds l ex js [] (e ∷ es) = ⊥
-Holds l ex js (v ∷ ops) [] = ⊥
-Holds l ex js (v ∷ ops) (e ∷ es) = One l ex (length (es ++ js)) e v × Holds l ex js ops es
+abbrev pub Holds : Ctx → List Value → List Value → List Place → List Value → List Place → Type 0
+Holds C l ex js [] [] = Unit {0}
+Holds C l ex js [] (e ∷ es) = ⊥
+Holds C l ex js (v ∷ ops) [] = ⊥
+Holds C l ex js (v ∷ ops) (e ∷ es) = One C l ex (length (es ++ js)) e v × Holds C l ex js ops es
 
 -- all but the topmost, where this is not kept
-abbrev pub HoldsBut : Bool → List Value → List Value → List Place → List Value → List Place → Type 0
-HoldsBut false l ex js ops es = Holds l ex js ops es
-HoldsBut true l ex js [] [] = Unit {0}
-HoldsBut true l ex js [] (e ∷ es) = ⊥
-HoldsBut true l ex js (v ∷ ops) [] = ⊥
-HoldsBut true l ex js (v ∷ ops) (e ∷ es) = (type_of v ≡ place_type e) × Holds l ex js ops es
+abbrev pub HoldsBut : Ctx → Bool → List Value → List Value → List Place → List Value → List Place → Type 0
+HoldsBut C false l ex js ops es = Holds C l ex js ops es
+HoldsBut C true l ex js [] [] = Unit {0}
+HoldsBut C true l ex js [] (e ∷ es) = ⊥
+HoldsBut C true l ex js (v ∷ ops) [] = ⊥
+HoldsBut C true l ex js (v ∷ ops) (e ∷ es) = (type_of v ≡ place_type e) × Holds C l ex js ops es
 
 -- a call through the table that is under way: the code that would hand over its operands, and these, which are still there
 pub record UnderWay : Type 0 where
@@ -166,14 +166,14 @@ FitsLabels C l ex a [] [] = Unit {0}
 FitsLabels C l ex a [] (_ ∷ _) = ⊥
 FitsLabels C l ex a (L ∷ Ls) [] = ⊥
 FitsLabels C l ex a (L ∷ Ls) (e ∷ ss) =
-    Holds l ex (joined ss) L.operands e × FitsIn C a (e ++ joined ss) × Room C (grown a (e ++ joined ss)) L.nodes × KindFits C (joined ss) L.kind Ls × FitsLabels C [] ex (awaits (pending L.kind)) Ls ss
+    Holds C l ex (joined ss) L.operands e × FitsIn C a (e ++ joined ss) × Room C (grown a (e ++ joined ss)) L.nodes × KindFits C (joined ss) L.kind Ls × FitsLabels C [] ex (awaits (pending L.kind)) Ls ss
 
 -- and there is one, which goes on, or waits for the result of a call
 abbrev pub FitsOpen : Ctx → List Value → List Value → Option (Option ValType) → List Label → List (List Place) → Type 0
 FitsOpen C l ex a [] ss = ⊥
 FitsOpen C l ex a (L ∷ Ls) [] = ⊥
 FitsOpen C l ex None (L ∷ Ls) (e ∷ ss) =
-    HoldsBut (passes C L.nodes) l ex (joined ss) L.operands e × FitsIn C None (e ++ joined ss) × Room C (e ++ joined ss) L.nodes × KindFits C (joined ss) L.kind Ls × FitsLabels C [] ex (awaits (pending L.kind)) Ls ss
+    HoldsBut C (passes C L.nodes) l ex (joined ss) L.operands e × FitsIn C None (e ++ joined ss) × Room C (e ++ joined ss) L.nodes × KindFits C (joined ss) L.kind Ls × FitsLabels C [] ex (awaits (pending L.kind)) Ls ss
 FitsOpen C l ex (Some a) (L ∷ Ls) (e ∷ ss) = FitsLabels C l ex a (L ∷ Ls) (e ∷ ss)
 
 -- whole pages, and not too many
@@ -186,9 +186,12 @@ abbrev pub byte_count : Option Memory → ℕ
 byte_count None = 0
 byte_count (Some m) = length m.bytes
 
--- the global of the length has that of this memory
+-- what the global of the length has for this memory
+abbrev pub told_length : Option Memory → ℕ
+told_length memory = less_word (byte_count memory)
+
 abbrev pub TellsLength : Ctx → World → Option Memory → Type 0
-TellsLength C w memory = slice_get w.globals (length_of C.source) ≡ Some (values.I64 (byte_count memory))
+TellsLength C w memory = slice_get w.globals (length_of C.source) ≡ Some (values.I64 (told_length memory))
 
 -- under a call through the table, the guard gave no kind, and its operands had room
 abbrev pub NoKind : Ctx → List Value → Option UnderWay → Type 0
@@ -256,7 +259,7 @@ with_added M w bs = record { globals = w.globals ++ bs; memory = w.memory; table
 
 -- behind the globals stand a flag and the length of the memory
 abbrev pub flagged : Engine → World → Value → World
-flagged M w b = with_added M w (b ∷ values.I64 (byte_count w.memory) ∷ [])
+flagged M w b = with_added M w (b ∷ values.I64 (told_length w.memory) ∷ [])
 
 abbrev pub image : Engine → Wrap → Config → List Wit → Config
 image M W c ws = config (t_top W c.frames ws) (flagged M c.world (values.I32 0)) c.collected

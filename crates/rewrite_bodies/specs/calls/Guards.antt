@@ -1,6 +1,6 @@
 -- Guards: each pushes another number than 0 where an instruction traps on the operands in these places, and 0 where it does not; a second piece
 -- of code pushes the kind of the trap. Both change nothing.
-use Rattle.std.specs.Prelude.{ℕ, suc, ◌+◌, ◌-◌, ◌/◌, ◌^◌, List, [], ◌∷◌, length, map, slice_get, Option, Some, None, option_map, unwrap_or, Bool, true, false, take}
+use Rattle.std.specs.Prelude.{ℕ, suc, ◌+◌, ◌-◌, ◌/◌, ◌^◌, ◌==◌, List, [], ◌∷◌, length, map, slice_get, Option, Some, None, option_map, unwrap_or, Bool, true, false, take}
 use Rattle.wasm_syntax.specs.declared.value.ValType.{ValType}
 use Rattle.wasm_syntax.specs.declared.value.ValType.TheVariants.{I32, I64}
 use Rattle.wasm_syntax.specs.declared.value.Value.{Value}
@@ -14,7 +14,7 @@ use Rattle.wasm_syntax.specs.declared.instruction.Basic.TheVariants.{Select, Loc
 use Rattle.wasm_syntax.specs.declared.parts.Limits.{Limits}
 use Rattle.wasm_syntax.specs.declared.parts.FuncType.{FuncType}
 use Rattle.wasm_syntax.specs.declared.module.ModuleParts.{ModuleParts as Module}
-use Rattle.wasm_syntax.specs.Numbers.{bits, value}
+use Rattle.wasm_syntax.specs.Numbers.{bits, value, modulo}
 use Rattle.wasm_syntax.specs.Access.{load_bits, store_bits}
 use Rattle.wasm_syntax.specs.Tree.{BrTable, Return, Nodes, stop, basic, jump, block}
 use Rattle.wasm_syntax.specs.Module.{type_at, same_functype, option_then}
@@ -43,18 +43,24 @@ overflow_test C t b a h k =
 abbrev pub guard_signed : Ctx → ValType → Place → Place → ℕ → Nodes → Nodes
 guard_signed C t b a h k = overflow_test C t b a h (guard_zero C t b (suc h) (basic 0 (Binary I32 Or) k))
 
--- the length of the memory in bytes, as an i64
-abbrev pub memory_length : Nodes → Nodes
-memory_length k = basic 0 MemorySize (basic 0 (Convert ExtendU) (const (values.I64 16) (basic 0 (Binary I64 Shl) k)))
+-- four bytes less than so many, as an i64, which as a signed one is below 0 where there are fewer
+abbrev pub less_word : ℕ → ℕ
+less_word n = modulo I64 (n + (2 ^ 64 - 4))
 
--- the global behind the flag: it has the length of the memory in bytes, as an i64
+-- four bytes less than the length of the memory
+abbrev pub memory_length : Nodes → Nodes
+memory_length k =
+    basic 0 MemorySize (basic 0 (Convert ExtendU) (const (values.I64 16) (basic 0 (Binary I64 Shl) (const (values.I64 4) (basic 0 (Binary I64 Sub) k)))))
+
+-- The global behind the flag: it has four bytes less than the length of the memory, so that the guard of most loads and stores, which are of four
+-- bytes without an offset, compares the address with it as it is.
 abbrev pub length_of : Module → ℕ
 length_of m = suc (flag_of m)
 
 abbrev pub get_length : Module → Nodes → Nodes
 get_length m k = basic 0 (GlobalGet (length_of m)) k
 
--- it is set to the length of the memory, where there is one: behind what may change that
+-- it is set by the length of the memory, where there is one: behind what may change that
 abbrev pub set_length : Module → Nodes → Nodes
 set_length m k = memory_length (basic 0 (GlobalSet (length_of m)) k)
 
@@ -67,12 +73,17 @@ renew m k = renewed m.memories m k
 
 -- the i64 on top is past the end of the memory
 abbrev pub past_end : Module → Nodes → Nodes
-past_end m k = get_length m (basic 0 (Compare I64 GtU) k)
+past_end m k = get_length m (const (values.I64 4) (basic 0 (Binary I64 Add) (basic 0 (Compare I64 GtU) k)))
+
+-- what so many bytes are more than four is taken from the i64 on top
+abbrev pub beyond_word : Bool → ℕ → Nodes → Nodes
+beyond_word true n k = k
+beyond_word false n k = const (values.I64 (less_word n)) (basic 0 (Binary I64 Sub) k)
 
 -- The address on top is past the place from which so many bytes, offset included, end with the memory. As a signed number that place may be
 -- below 0. It does not hang on the address, so that an engine can find it outside of a loop.
 abbrev pub out_test : Module → ℕ → Nodes → Nodes
-out_test m n k = basic 0 (Convert ExtendU) (get_length m (const (values.I64 n) (basic 0 (Binary I64 Sub) (basic 0 (Compare I64 GtS) k))))
+out_test m n k = basic 0 (Convert ExtendU) (get_length m (beyond_word (n == 4) n (basic 0 (Compare I64 GtS) k)))
 
 -- an access of n bytes, offset included, from the address at height h passes the end
 abbrev pub guard_memory : Ctx → Place → ℕ → ℕ → Nodes → Nodes

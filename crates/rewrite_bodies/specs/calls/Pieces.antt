@@ -29,7 +29,7 @@ if_any a k = choose 0 None a None stop 0 k
 
 -- the operand at a height is pushed once more
 abbrev pub fetch : Ctx → Place → ℕ → Nodes → Nodes
-fetch C (Spilled t) h k = get C (slot t h) k
+fetch C (Spilled t) h k = get C (slot C.slots t h) k
 fetch C (Known v) h k = const v k
 fetch C (Copied t x) h k = basic 0 (LocalGet x) k
 
@@ -42,7 +42,7 @@ load C (suc m) (e ∷ es) k = load C m es (fetch C e (length es) k)
 -- a result is kept in its slot besides, unless the next instruction takes it
 abbrev pub keep_slot : Bool → Ctx → ValType → List Place → Nodes → Nodes
 keep_slot true C t es k = k
-keep_slot false C t es k = basic 0 (LocalTee (length C.locals + slot t (length es))) k
+keep_slot false C t es k = basic 0 (LocalTee (length C.locals + slot C.slots t (length es))) k
 
 abbrev pub keep : Bool → Ctx → Option Place → List Place → Nodes → Nodes
 keep passing C (Some (Spilled t)) es k = keep_slot passing C t es k
@@ -51,15 +51,15 @@ keep passing C e es k = k
 -- a result goes to its slot, and comes back from there
 abbrev pub store : Ctx → Option ValType → List Place → Nodes → Nodes
 store C None es k = k
-store C (Some t) es k = set C (slot t (length es)) k
+store C (Some t) es k = set C (slot C.slots t (length es)) k
 
 abbrev pub reload : Ctx → Option ValType → List Place → Nodes → Nodes
 reload C None es k = k
-reload C (Some t) es k = get C (slot t (length es)) k
+reload C (Some t) es k = get C (slot C.slots t (length es)) k
 
 -- copies of these locals go to their slots
 abbrev pub spill_one : Ctx → (ℕ → Bool) → Place → ℕ → Nodes → Nodes
-spill_one C these (Copied t x) h k = if these x then basic 0 (LocalGet x) (set C (slot t h) k) else k
+spill_one C these (Copied t x) h k = if these x then basic 0 (LocalGet x) (set C (slot C.slots t h) k) else k
 spill_one C these e h k = k
 
 abbrev pub spill : Ctx → (ℕ → Bool) → List Place → Nodes → Nodes

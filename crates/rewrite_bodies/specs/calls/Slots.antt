@@ -1,6 +1,6 @@
 -- What is known of operands in a rewritten function, whose stack has the original's operands: each operand has a height and a type, and so a slot
 -- among the added locals, in which its value is besides, unless a constant instruction pushed it or it is a copy of a local.
-use Rattle.std.specs.Prelude.{ℕ, zero, suc, ◌+◌, ◌*◌, ◌==◌, max, List, [], ◌∷◌, ◌++◌, length, map, slice_get, Option, Some, None, option_map, Bool, true, if◌then◌else◌}
+use Rattle.std.specs.Prelude.{ℕ, zero, suc, ◌+◌, ◌*◌, ◌==◌, max, List, [], ◌∷◌, ◌++◌, length, map, replicate, slice_get, Option, Some, None, option_map, Bool, true, if◌then◌else◌}
 use Rattle.wasm_syntax.specs.declared.value.ValType.{ValType}
 use Rattle.wasm_syntax.specs.declared.value.ValType.TheVariants.{I32, I64}
 use Rattle.wasm_syntax.specs.declared.value.Value.{Value}
@@ -16,7 +16,7 @@ use Rattle.wasm_syntax.specs.Tree.{Jump, BrIf, Call, CallIndirect, Nodes, stop, 
 use Rattle.wasm_syntax.specs.Module.{Program, Function, defined, function_at, type_at, declared_locals}
 use Rattle.wasm_syntax.specs.Effect.{takes}
 use Rattle.wasm_syntax.specs.Machine.{result_of}
-use Rattle.rewrite_bodies.specs.Numbering.{import_count, type_number, helped, helper_base}
+use Rattle.rewrite_bodies.specs.Numbering.{import_count, helped, helper_base}
 
 -- where the value of an operand is besides: in its slot, in a constant, or in a local of the original
 pub data Place : Type 0 where
@@ -51,32 +51,32 @@ pub record Ctx : Type 0 where
   pub landings : List Landing
   pub exposed : List ℕ
 
--- the added locals: a slot of each type at each height, two results, kind and offset
-abbrev pub slot : ValType → ℕ → ℕ
-slot t h = 2 * h + type_number t
+-- the added locals, of which all of a type stand together: a slot of type i32 at each height and for a result, the kind and the offset of a
+-- trap, and a slot of type i64 at each height and for a result
+abbrev pub slot : ℕ → ValType → ℕ → ℕ
+slot slots I32 h = h
+slot slots I64 h = slots + 3 + h
 
 -- the result local of a type; kind and offset of a trap
 abbrev pub result_at : Ctx → ValType → ℕ
-result_at C t = slot t C.slots
+result_at C t = slot C.slots t C.slots
 
 abbrev pub kind_at : Ctx → ℕ
-kind_at C = 2 * C.slots + 2
+kind_at C = C.slots + 1
 
 abbrev pub offset_at : Ctx → ℕ
-offset_at C = 2 * C.slots + 3
+offset_at C = C.slots + 2
 
 -- the types of the added locals, for so many heights
 abbrev pub added : ℕ → List ValType
-added zero = I32 ∷ I64 ∷ I32 ∷ I32 ∷ []
-added (suc n) = I32 ∷ I64 ∷ added n
+added n = replicate (n + 3) I32 ++ replicate (n + 1) I64
 
 -- the same, as groups of locals
-abbrev pub group : ValType → LocalGroup
-group t = record { count = 1; vtype = t }
+abbrev pub group : ℕ → ValType → LocalGroup
+group n t = record { count = n; vtype = t }
 
 abbrev pub groups : ℕ → List LocalGroup
-groups zero = group I32 ∷ group I64 ∷ group I32 ∷ group I32 ∷ []
-groups (suc n) = group I32 ∷ group I64 ∷ groups n
+groups n = group (n + 3) I32 ∷ group (n + 1) I64 ∷ []
 
 -- ---- the places behind an instruction
 

@@ -75,7 +75,7 @@ verdict (suc k) = 1
 -- On the operands that these places stand for, it leaves 1 where the instruction traps on them, and 0 where it does not.
 pub record IsGuard (C : Ctx) (i : Basic) (places : List Place) (piece : Nodes → Nodes) : Type 0 where
   pub tells : (M : Engine) (A : Around) (locals added_ : List Value) (w : World) (calls : List CollectorCall) (operands taken below : List Value)
-      → length C.locals ≡ length locals → MemoryFits w.memory → TellsLength C w w.memory → SmallOffset i → Holds locals added_ [] operands places → cut (takes i) operands ≡ parts taken below → effect i w locals taken ≢ unfit
+      → length C.locals ≡ length locals → MemoryFits w.memory → TellsLength C w w.memory → SmallOffset i → Holds C locals added_ [] operands places → cut (takes i) operands ≡ parts taken below → effect i w locals taken ≢ unfit
       → Leaves M A (locals ++ added_) w calls (verdict (kind_of (effect i w locals taken))) piece
   pub typed : (after : List ValType) → AllOwn C places → BasicTypes (original C []) i (map place_type places) after → LeavesI32 C piece
   pub short : IsShort C piece
@@ -83,7 +83,7 @@ pub record IsGuard (C : Ctx) (i : Basic) (places : List Place) (piece : Nodes �
 -- Where the instruction traps on them, it leaves the kind.
 pub record IsKind (C : Ctx) (i : Basic) (places : List Place) (piece : Nodes → Nodes) : Type 0 where
   pub tells : (M : Engine) (A : Around) (locals added_ : List Value) (w : World) (calls : List CollectorCall) (operands taken below : List Value)
-      → length C.locals ≡ length locals → MemoryFits w.memory → TellsLength C w w.memory → SmallOffset i → Holds locals added_ [] operands places → cut (takes i) operands ≡ parts taken below → effect i w locals taken ≢ unfit
+      → length C.locals ≡ length locals → MemoryFits w.memory → TellsLength C w w.memory → SmallOffset i → Holds C locals added_ [] operands places → cut (takes i) operands ≡ parts taken below → effect i w locals taken ≢ unfit
       → (j : ℕ) → kind_of (effect i w locals taken) ≡ suc j → Leaves M A (locals ++ added_) w calls (suc j) piece
   pub typed : (after : List ValType) → AllOwn C places → BasicTypes (original C []) i (map place_type places) after → LeavesI32 C piece
   pub short : IsShort C piece
@@ -129,7 +129,7 @@ IsHelper M source t f = (b : Body) × (function_at M.program f ≡ Some (defined
 -- was at the start, or 0. The call of the helper has room among the frames, and its steps count.
 pub record IsGuardOfEntry (C : Ctx) (t f : ℕ) (entry : Place) (height : ℕ) (piece : Nodes → Nodes) : Type 0 where
   pub tells : (M N : Engine) (c : Config) (n : ℕ) → N.program.module_ ≡ C.source → c.world.table ≡ first_table C.source → CallsEntry t n c → step N c ≢ stuck
-      → (A : Around) (locals added_ : List Value) (w : World) (calls : List CollectorCall) → length C.locals ≡ length locals → One locals added_ height entry (values.I32 n)
+      → (A : Around) (locals added_ : List Value) (w : World) (calls : List CollectorCall) → length C.locals ≡ length locals → One C locals added_ height entry (values.I32 n)
       → IsHelper M C.source t f → suc (length A.callers) < M.depth → Leaves M A (locals ++ added_) w calls (kind_of_step (step N c)) piece
   pub typed : Own C entry → place_type entry ≡ I32 → Has t C.helpers → f ≡ helper_of C t → LeavesI32 C piece
   pub short : IsShort C piece

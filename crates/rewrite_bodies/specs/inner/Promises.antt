@@ -33,7 +33,7 @@ abbrev pub GuardTells : Engine → Basic → Type 0
 GuardTells M i =
     (C : Ctx) (locals added_ : List Value) (X : Shell) (behind : Nodes) (there here : World) (calls : List CollectorCall) (js es : List Place) (ops vs below under : List Value) →
     length C.locals ≡ length locals → TellsLength C there here.memory → MemoryFits here.memory → SmallOffset i → can_trap i ≡ true →
-    Holds locals added_ js ops es → cut (takes i) ops ≡ parts vs below → effect i here locals vs ≢ unfit →
+    Holds C locals added_ js ops es → cut (takes i) ops ≡ parts vs below → effect i here locals vs ≢ unfit →
     To M 1 21 (st X (locals ++ added_) under (guard C i (es ++ js) behind) there calls) (st X (locals ++ added_) (values.I32 (verdict (kind_of (effect i here locals vs))) ∷ under) behind there calls)
     × ((k : ℕ) → kind_of (effect i here locals vs) ≡ suc k → To M 1 5 (st X (locals ++ added_) under (kind C i (es ++ js) behind) there calls) (st X (locals ++ added_) (values.I32 (suc k) ∷ under) behind there calls))
 

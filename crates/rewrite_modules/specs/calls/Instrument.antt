@@ -18,7 +18,7 @@ use Rattle.wasm_syntax.specs.Run.{table_min, element_at}
 use Rattle.rewrite_bodies.specs.Numbering.{import_count, mapped, wraps, start_wraps, export_wrapped, doubles, wrapped, wrapper_base, shown, helped, value_type, frame_type}
 use Rattle.rewrite_bodies.specs.calls.Slots.{groups, ctx_of, slots_of}
 use Rattle.rewrite_bodies.specs.calls.Pieces.{i32, tree_of}
-use Rattle.rewrite_bodies.specs.calls.Guards.{helper, helper_type}
+use Rattle.rewrite_bodies.specs.calls.Guards.{less_word, helper, helper_type}
 use Rattle.rewrite_bodies.specs.calls.Rewrite.{body}
 use Rattle.rewrite_modules.specs.Collector.{collector_import, memory_export}
 use Rattle.rewrite_modules.specs.Interface.{new_tables}
@@ -53,13 +53,13 @@ number_init n = value_init (i32 n)
 abbrev pub flag_global : Global
 flag_global = record { vtype = I32; mutable = true; init = number_init 0 }
 
--- the pages of a memory at first, and the global of its length in bytes
+-- the pages of a memory at first, and the global of its length
 abbrev pub memory_min : List Limits → ℕ
 memory_min [] = 0
 memory_min (l ∷ ls) = l.min
 
 abbrev pub length_global : Module → Global
-length_global m = record { vtype = I64; mutable = true; init = value_init (values.I64 (65536 * memory_min m.memories)) }
+length_global m = record { vtype = I64; mutable = true; init = value_init (values.I64 (less_word (65536 * memory_min m.memories))) }
 
 -- an export of a defined function is that of its wrapper; k is the number of wrappers before
 abbrev pub new_index : Module → ℕ → List ℕ → ℕ → ℕ

@@ -4,4 +4,4 @@ use Rattle.guard_insert.proofs.accesses.out_test.Goals as goal
 
 pub returns : goal.returns
 returns c =
-    when_ok (λ last. emits_then c.in_ok-basic.ensures (emits_then c.in_ok-get_length.ensures (emits_then c.in_ok-const_value.ensures (emits_then c.in_ok-basic-2.ensures last)))) c.basic-3.result c.basic-3.ensures
+    when_ok (λ last. emits_then c.in_ok-basic.ensures (emits_then c.in_ok-get_length.ensures (emits_then c.in_ok-beyond_word.ensures last))) c.basic-2.result c.basic-2.ensures
