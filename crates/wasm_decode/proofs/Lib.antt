@@ -12,3 +12,4 @@ pub mod Short
 pub mod Vectors
 pub mod Instructions
 pub mod Header
+pub mod NamePlaces

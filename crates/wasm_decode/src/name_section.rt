@@ -1,45 +1,57 @@
 //! The names of functions (Core, appendix "Custom Sections", A.4.1).
 
 ghost use Rattle.std.specs.Prelude.{◌≡◌, ◌<◌, ◌^◌, List, [], length, IfOk, OnOk};
+ghost use Rattle.std.specs.BTreeMap.{get};
 ghost use Rattle.std.specs.Option.{option_copied};
+ghost use Rattle.std.specs.Ordering.{nat_cmp};
 ghost use Rattle.wasm_bytes.specs.Place.{Moves, Stays};
 ghost use Rattle.wasm_bytes.specs.Reading.{steps_to_end};
 ghost use Rattle.wasm_bytes.specs.calls.Answers.{Gives, with_state};
 ghost use Rattle.wasm_decode.specs.calls.NameGrammar.{AreNamesOf};
 ghost use Rattle.wasm_decode.specs.Names.{Named, name_of, with_name, names_from, name_step, name_steps, names_item};
 ghost use Rattle.wasm_decode.specs.Names.{subsection_step, names_in};
+ghost use Rattle.wasm_decode.specs.inner.NamePlaces.{ArePlaced};
 
 use crate::Input;
 use causes::NoMemory;
-use indexmap::IndexMap;
 use pm_text::Text;
 use std::alloc::Global;
+use std::collections::BTreeMap;
 use std::marker::Model;
 use wasm_bytes::{Gather, ItemFault, gather_count};
 use wasm_syntax::{Custom, Module};
 
 /// Names by the indices of functions, which contracts see as pairs in the order of their first
-/// mention.
+/// mention. Places stand in an ordered map: indices that collide make a hash slow.
 #[derive(Drop)]
 pub struct Names {
-    names: IndexMap<u32, Text>,
+    names: Vec<(u32, Text)>,
+    // Where the name of each index stands.
+    places: BTreeMap<u32, usize>,
 }
 
 impl Model for Names {
     ghost use Rattle.std.specs.Prelude.{ℕ, List};
+    ghost use Rattle.std.specs.BTreeMap.{get};
+    ghost use Rattle.std.specs.Ordering.{nat_cmp};
+    ghost use Rattle.wasm_decode.specs.inner.NamePlaces.{ArePlaced};
 
     ghost Value = { List (ℕ × List ℕ) };
 
-    ghost view = { λ n. n.names.entries };
+    ghost view = { λ n. n.names.items };
+
+    ghost invariant = { λ n. ArePlaced n.names.items (get nat_cmp n.places) };
 }
 
 impl Names {
     /// No names.
+    #[tactic(auto, using(crate::proofs::NamePlaces::none_placed))]
     fn new(alloc: Global) -> Self
         ensures { result ≡ [] }
     {
         Names {
-            names: IndexMap::new(alloc),
+            names: Vec::new(alloc),
+            places: BTreeMap::new(alloc),
         }
     }
 
@@ -47,18 +59,27 @@ impl Names {
     fn add(&mut self, index: u32, name: Text) -> Result<(), NoMemory>
         ensures { OnOk result (self.new ≡ with_name self.old (index, name)) }
     {
-        if self.names.get(&index).is_none() {
-            self.names.insert(index, name)?;
+        if self.places.contains_key(&index) {
+            return Ok(());
         }
-        Ok(())
+        let place = self.names.len();
+        self.names.push((index, name))?;
+        match self.places.insert(index, place) {
+            Ok(_) => Ok(()),
+            Err(_) => {
+                self.names.pop();
+                Err(NoMemory)
+            }
+        }
     }
 
     /// The name of a function, or None where it has none.
     pub fn get(&self, function: u32) -> Option<&str>
         ensures { option_copied result ≡ name_of self.now function }
     {
-        match self.names.get(&function) {
-            Some(name) => Some(name.as_str()),
+        let place = self.places.get(&function)?;
+        match self.names.get(*place) {
+            Some(named) => Some(named.1.as_str()),
             None => None,
         }
     }
