@@ -1,9 +1,11 @@
 //! Lists of values with codes, of which each is another one with a value in front.
 
 ghost use Rattle.std.specs.Prelude.{◌≡◌, ◌≤◌, ◌==◌, ◌++◌, ◌+◌, [], ◌∷◌, ℕ, find, length, slice_get, IfOk, OnOk, OnErr};
+ghost use Rattle.std.specs.Prelude.{if◌then◌else◌};
 ghost use Rattle.std.specs.Option.{option_copied};
 ghost use Rattle.dwarf_abbrev.specs.calls.Shared.{list_of};
-ghost use Rattle.dwarf_abbrev.specs.inner.Linked.{lists, first_of, map_of, Finds};
+ghost use Rattle.dwarf_abbrev.specs.inner.Forks.{found, IsClosed};
+ghost use Rattle.dwarf_abbrev.specs.inner.Linked.{lists, first_of, map_of, FindsBehind, Finds};
 
 use crate::forks::{Fork, found, with};
 use crate::table::Coded;
@@ -19,7 +21,8 @@ pub struct Link<T: Drop> {
     pub value: T,
     /// The list behind the value.
     pub rest: u32,
-    /// The map from codes to the numbers of the lists that begin with their first values.
+    /// The map from codes to the numbers of the lists that begin with their first values, as it is
+    /// for all codes but that of the value in front.
     pub map: u32,
 }
 
@@ -71,6 +74,55 @@ fn map_of<T: Coded>(links: &[Link<T>], number: u32) -> u32
     }
 }
 
+/// A map, in which the value of a code is that of the list of a number, if it is another code than
+/// one in front of it. So values of one code in a row take no nodes.
+fn with_other(
+    forks: &mut Items<Fork>,
+    before: u32,
+    other: u64,
+    code: u64,
+    rest: u32,
+) -> Result<u32, NoMemory>
+    requires closed { IsClosed forks.old }
+    requires there { before ≤ length forks.old }
+    ensures closed { IsClosed forks.new }
+    ensures grows { length forks.old ≤ length forks.new }
+    ensures same { (fuel n k : ℕ) → n ≤ length forks.old
+        → found forks.new fuel n k ≡ found forks.old fuel n k }
+    ensures number { IfOk result (λ made. made ≤ length forks.new) }
+    ensures value { IfOk result (λ made. (fuel k : ℕ) → k ≤ fuel
+        → found forks.new fuel made k ≡ (if other == code then found forks.old fuel before k
+        else (if other == k then rest else found forks.old fuel before k))) }
+{
+    if other == code {
+        return Ok(before);
+    }
+    with(forks, before, other, rest)
+}
+
+/// Adds the map of a list that has a value of a code in front of that of a number.
+fn map_behind<T: Coded>(
+    links: &[Link<T>],
+    forks: &mut Items<Fork>,
+    code: u64,
+    rest: u32,
+) -> Result<u32, NoMemory>
+    requires finds { Finds T.code links.now forks.old }
+    requires rest { rest ≤ length links.now }
+    ensures closed { IsClosed forks.new }
+    ensures grows { length forks.old ≤ length forks.new }
+    ensures same { (fuel n k : ℕ) → n ≤ length forks.old
+        → found forks.new fuel n k ≡ found forks.old fuel n k }
+    ensures number { IfOk result (λ made. made ≤ length forks.new) }
+    ensures value { IfOk result (λ made. FindsBehind T.code links.now forks.new made rest code) }
+{
+    let before = map_of(links, rest);
+    match first_of(links, rest) {
+        Some(front) => with_other(forks, before, front.code(), code, rest),
+        None => Ok(before),
+    }
+}
+
 /// Adds the list that has a value in front of that of a number, and hands out its own number.
 fn add_link<T: Coded>(
     links: &mut Items<Link<T>>,
@@ -91,10 +143,34 @@ fn add_link<T: Coded>(
         return Err(NoMemory);
     }
     let number = len as u32 + 1;
-    let before = map_of(links.as_slice(), rest);
-    let map = with(forks, before, value.code(), number)?;
+    let map = map_behind(links.as_slice(), forks, value.code(), rest)?;
     links.push(Link { value, rest, map })?;
     Ok(number)
+}
+
+/// What the map of the list of a number has for a code.
+fn mapped<'s, T: Coded>(links: &'s [Link<T>], forks: &[Fork], list: u32, code: u64) -> Option<&'s T>
+    ensures { (fuel : ℕ) → code ≤ fuel → option_copied result
+        ≡ first_of links.now (found forks.now fuel (map_of links.now list) code) }
+{
+    first_of(links, found(forks, map_of(links, list), code))
+}
+
+/// The first value of a code in the list of a number.
+fn find_in<'s, T: Coded>(
+    links: &'s [Link<T>],
+    forks: &[Fork],
+    list: u32,
+    code: u64,
+) -> Option<&'s T>
+    requires { Finds T.code links.now forks.now }
+    ensures { option_copied result ≡ find (λ item. T.code item == code) (list_of (lists links.now) list) }
+{
+    let front = first_of(links, list)?;
+    if front.code() == code {
+        return Some(front);
+    }
+    mapped(links, forks, list, code)
 }
 
 impl<T: Coded> SharedLists<T> {
@@ -132,8 +208,6 @@ impl<T: Coded> SharedLists<T> {
         ensures { option_copied result
             ≡ find (λ item. T.code item == code) (list_of self.now list) }
     {
-        let links = self.links.as_slice();
-        let number = found(self.forks.as_slice(), map_of(links, list), code);
-        first_of(links, number)
+        find_in(self.links.as_slice(), self.forks.as_slice(), list, code)
     }
 }

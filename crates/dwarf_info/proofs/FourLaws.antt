@@ -1,11 +1,10 @@
 -- Tables of abbreviations of version 4, by pairs that have the forms of their codes.
-use Rattle.std.proofs.Common.{◌≡◌, ℕ, zero, suc, ◌+◌, ◌-◌, Bool, true, false, List, [], ◌∷◌, length, map, Option, Some, None, refl, sym, ap, ◌∙◌}
+use Rattle.std.proofs.Common.{◌≡◌, ℕ, zero, suc, ◌+◌, ◌-◌, Bool, true, false, List, ◌∷◌, length, map, Option, Some, None, refl, sym, ap, ◌∙◌}
 use Rattle.std.specs.Prelude.{◌==◌, option_map, Ok, Err}
 use Rattle.wasm_bytes.specs.Place.{Place, Read}
 use Rattle.wasm_bytes.specs.Reading.{◌>>=◌, ◌⊗◌, ◌▷◌, mapped, done_item, one_of_item, u64_item}
 use Rattle.dwarf_bytes.specs.Items.{and_more, ended_from, ended_item}
 use Rattle.dwarf_abbrev.specs.declared.abbrev.Pair.{Pair}
-use Rattle.dwarf_abbrev.specs.declared.abbrev.Abbrev.{Abbrev}
 use Rattle.dwarf_abbrev.specs.Reading.{pair_of, is_end, behind_pair, pair_item, is_flag, is_one, behind_code, table_item, abbrev_of, abbrevs_item}
 use Rattle.dwarf_info.specs.declared.form.Slot.{Slot}
 use Rattle.dwarf_info.specs.declared.form.Shape.{Shape}

@@ -1,9 +1,9 @@
 -- Attributes in lists of which each is another one with an attribute in front.
-use Rattle.std.proofs.Common.{◌≡◌, ℕ, zero, suc, ◌+◌, ◌-◌, ◌≤◌, ◌⊎◌, Bool, true, false, cond, eqb, List, [], ◌∷◌, ◌++◌, length, map, drop, Option, Some, None, refl, sym, ap, subst, ◌∙◌, inl, inr, arith, length-append}
+use Rattle.std.proofs.Common.{◌≡◌, ℕ, zero, suc, ◌+◌, ◌-◌, ◌≤◌, ◌⊎◌, Bool, true, false, cond, List, [], ◌∷◌, ◌++◌, length, drop, Option, Some, None, refl, sym, ap, subst, ◌∙◌, inl, inr, arith, length-append}
 use Rattle.std.specs.Prelude.{◌==◌, find, slice_get, option_map, unwrap_or, IfSome, Ok, Err}
 use Rattle.std.proofs.lemmas.Bool.{cases_lt}
 use Rattle.std.proofs.lemmas.List.{length-map}
-use Rattle.std.proofs.lemmas.Option.{slice_get_cases, slice_get_past}
+use Rattle.std.proofs.lemmas.Option.{slice_get_past}
 use Rattle.wasm_bytes.specs.Place.{Place, Read}
 use Rattle.wasm_bytes.specs.Reading.{◌>>=◌}
 use Rattle.wasm_bytes.proofs.Loops.{first}
@@ -12,7 +12,6 @@ use Rattle.dwarf_abbrev.specs.calls.Shared.{or_empty, list_of}
 use Rattle.dwarf_abbrev.proofs.LinkLaws.{list_front, list_last}
 use Rattle.dwarf_info.specs.declared.form.Slot.{Slot}
 use Rattle.dwarf_info.specs.declared.slots.KeptSlot.{KeptSlot}
-use Rattle.dwarf_info.specs.declared.slots.SlotPlace.{SlotPlace}
 use Rattle.dwarf_info.specs.inner.Joined.{takes_bytes, own_slots, held, counted, placed_in}
 use Rattle.dwarf_info.specs.inner.Kept.{slots_in, slots_of, Begins, IsKept, IsFirst, AreKept}
 

@@ -1,5 +1,5 @@
 -- Pairs of rows, by where they begin.
-use Rattle.std.proofs.Common.{◌≡◌, ℕ, zero, suc, ◌+◌, ◌-◌, ◌<◌, ◌≤◌, Bool, true, false, cond, eqb, List, [], ◌∷◌, ◌++◌, length, map, Option, Some, None, refl, sym, ap, subst, ◌∙◌, arith, length-append}
+use Rattle.std.proofs.Common.{◌≡◌, ℕ, zero, suc, ◌+◌, ◌-◌, ◌<◌, ◌≤◌, Bool, true, false, cond, eqb, List, [], ◌∷◌, ◌++◌, length, Option, Some, None, refl, sym, ap, subst, ◌∙◌, arith, length-append}
 use Rattle.std.specs.Prelude.{IfSome, Result, Ok, Err, OnOk}
 use Rattle.std.specs.Ordering.{nat_cmp, is_eq}
 use Rattle.std.proofs.lemmas.Bool.{eqb-true}
@@ -15,7 +15,7 @@ use Rattle.dwarf_abbrev.proofs.LinkLaws.{list_front, list_last}
 use Rattle.dwarf_info.specs.declared.form.Slot.{Slot}
 use Rattle.dwarf_info.specs.declared.known.PairsAt.{PairsAt}
 use Rattle.dwarf_info.specs.declared.known.PairsAt.TheVariants.{Listed, Fault}
-use Rattle.dwarf_info.specs.calls.Pairs.{Pair, AreThere, IsTold, IsRight, Knows, IsInFront}
+use Rattle.dwarf_info.specs.calls.Pairs.{Pair, IsTold, IsRight, Knows, IsInFront}
 
 abbrev pub place : List ℕ → ℕ → Place
 place section at = record { block = section; at = at }

@@ -6,25 +6,25 @@ use Rattle.std.specs.List.Sorted.{IsNonDecreasingBy, IsPartitionPoint}
 use Rattle.std.proofs.lemmas.Bool.{and_parts}
 use Rattle.dwarf_info.specs.declared.places.EntryPlace.{EntryPlace}
 use Rattle.dwarf_info.specs.declared.places.PlacedEntry.{PlacedEntry}
-use Rattle.dwarf_info.specs.inner.Settling.{placed, placed_by}
+use Rattle.dwarf_info.specs.inner.Settling.{placed, placed_by, place_of}
 use Rattle.dwarf_info.specs.inner.Ascending.{ascends_from}
 
 -- ---- one more
 
-last_by : (e : PlacedEntry) (b : Bool) → option_map (λ (x : PlacedEntry). x.place) (if b then Some e else None) ≡ (if b then Some e.place else None)
+last_by : (e : PlacedEntry) (b : Bool) → option_map place_of (if b then Some e else None) ≡ (if b then Some (place_of e) else None)
 last_by e true = refl
 last_by e false = refl
 
 more_by : (e : PlacedEntry) (b : Bool) (before after : Option PlacedEntry) (last : Option EntryPlace)
-    → option_map (λ (x : PlacedEntry). x.place) after ≡ option_or (option_map (λ (x : PlacedEntry). x.place) before) last
-    → option_map (λ (x : PlacedEntry). x.place) (if b then Some e else after) ≡ option_or (option_map (λ (x : PlacedEntry). x.place) (if b then Some e else before)) last
+    → option_map place_of after ≡ option_or (option_map place_of before) last
+    → option_map place_of (if b then Some e else after) ≡ option_or (option_map place_of (if b then Some e else before)) last
 more_by e true before after last h = refl
 more_by e false before after last h = h
 
-pub placed_more : (es : List PlacedEntry) (e : PlacedEntry) (q : ℕ) → placed (es ++ e ∷ []) q ≡ option_or (placed es q) (if e.at == q then Some e.place else None)
+pub placed_more : (es : List PlacedEntry) (e : PlacedEntry) (q : ℕ) → placed (es ++ e ∷ []) q ≡ option_or (placed es q) (if e.at == q then Some (place_of e) else None)
 placed_more [] e q = last_by e (e.at == q)
 placed_more (x ∷ xs) e q =
-    more_by x (x.at == q) (find (λ (y : PlacedEntry). y.at == q) xs) (find (λ (y : PlacedEntry). y.at == q) (xs ++ e ∷ [])) (if e.at == q then Some e.place else None) (placed_more xs e q)
+    more_by x (x.at == q) (find (λ (y : PlacedEntry). y.at == q) xs) (find (λ (y : PlacedEntry). y.at == q) (xs ++ e ∷ [])) (if e.at == q then Some (place_of e) else None) (placed_more xs e q)
 
 -- ---- ascending offsets
 

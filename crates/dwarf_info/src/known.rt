@@ -7,7 +7,7 @@ ghost use Rattle.dwarf_info.specs.Sections.{greatest_section};
 ghost use Rattle.dwarf_info.specs.calls.Pairs.{Pair, IsRight, Knows, KnowsAll, IsInFront};
 
 use crate::form::Slot;
-use crate::marks::marked_pairs;
+use crate::marks::{marked_pairs, pairs_of};
 use crate::sections::Sections5;
 use crate::slots::SlotLists;
 use crate::version::UnitVersion;
@@ -38,7 +38,7 @@ pub struct GrowingPairs {
 #[derive(Drop)]
 pub struct KnownPairs {
     pub lists: Rc<SlotLists>,
-    /// What the pairs from an offset on are, where it is known.
+    /// What the pairs of a row that begin at an offset are, where it is known.
     pub known: BTreeMap<u64, PairsAt>,
 }
 
@@ -138,6 +138,70 @@ fn learn_all<'a, V: UnitVersion<'a>>(
     Ok(growing)
 }
 
+/// Keeps what the pairs from an offset on are, where they were learned.
+fn keep_learned(
+    growing: &GrowingPairs,
+    at: u64,
+    known: &mut BTreeMap<u64, PairsAt>,
+) -> Result<(), NoMemory>
+    ensures { OnOk result ((pair : Pair) (section : List ℕ)
+        → Knows pair section growing.now.lists (get nat_cmp growing.now.known)
+        → Knows pair section growing.now.lists (get nat_cmp known.old)
+        → Knows pair section growing.now.lists (get nat_cmp known.new)) }
+{
+    match growing.kept_at(at) {
+        Some(pairs) => {
+            known.insert(at, pairs)?;
+            Ok(())
+        }
+        None => Ok(()),
+    }
+}
+
+/// Keeps what the pairs of the row at an offset are, where they were learned.
+fn keep_row(
+    section: &[u8],
+    growing: &GrowingPairs,
+    at: usize,
+    known: &mut BTreeMap<u64, PairsAt>,
+) -> Result<(), NoMemory>
+    requires { at ≤ length section.now }
+    ensures { OnOk result ((pair : Pair) (section : List ℕ)
+        → Knows pair section growing.now.lists (get nat_cmp growing.now.known)
+        → Knows pair section growing.now.lists (get nat_cmp known.old)
+        → Knows pair section growing.now.lists (get nat_cmp known.new)) }
+{
+    match pairs_of(&mut Reader::starting_at(section, at)) {
+        Ok(Some(pairs)) => keep_learned(growing, pairs, known),
+        Ok(None) => Ok(()),
+        Err(_) => Ok(()),
+    }
+}
+
+/// What the pairs of rows at marked offsets are, where they were learned. What stands inside of them
+/// is not looked up again.
+fn known_of_rows(
+    alloc: Global,
+    section: &[u8],
+    growing: &GrowingPairs,
+    marks: &[bool],
+) -> Result<BTreeMap<u64, PairsAt>, NoMemory>
+    requires marks { length marks.now ≤ length section.now + 1 }
+    ensures { IfOk result (λ known. (pair : Pair) (section : List ℕ)
+        → Knows pair section growing.now.lists (get nat_cmp growing.now.known)
+        → Knows pair section growing.now.lists (get nat_cmp known)) }
+{
+    let mut known = BTreeMap::new(alloc);
+    let mut left = marks.len();
+    'marks: while left > 0 {
+        left -= 1;
+        if marks[left] {
+            keep_row(section, growing, left, &mut known)?;
+        }
+    }
+    Ok(known)
+}
+
 impl KnownPairs {
     /// The pairs of all rows that the units of these sections have, and maybe others.
     pub fn of<'a, V: UnitVersion<'a>>(
@@ -149,17 +213,19 @@ impl KnownPairs {
     {
         let section = sections.abbreviations();
         let marks = marked_pairs::<V>(alloc, sections)?;
-        let all = learn_all::<V>(alloc, section, marks.as_slice())?;
-        match Rc::new(alloc, all.lists) {
-            Ok(lists) => Ok(KnownPairs {
-                lists,
-                known: all.known,
-            }),
+        let all = learn_all::<V>(alloc, section, marks.pairs.as_slice())?;
+        let known = known_of_rows(alloc, section, &all, marks.rows.as_slice())?;
+        let GrowingPairs {
+            lists,
+            known: _learned,
+        } = all;
+        match Rc::new(alloc, lists) {
+            Ok(lists) => Ok(KnownPairs { lists, known }),
             Err(_) => Err(NoMemory),
         }
     }
 
-    /// What the pairs from an offset on are, where it is known.
+    /// What the pairs of a row that begin at an offset are, where it is known.
     pub fn found_at(&self, at: u64) -> Option<PairsAt>
         ensures { result ≡ get nat_cmp self.now.known at }
     {

@@ -13,6 +13,15 @@ use pm_text::Items;
 use std::alloc::Global;
 use wasm_bytes::{Malformed, Reader};
 
+/// Offsets of a section where something may begin.
+#[derive(Drop)]
+pub struct Marks {
+    /// Whether a row does.
+    pub rows: Items<bool>,
+    /// Whether a pair does.
+    pub pairs: Items<bool>,
+}
+
 /// So many offsets, of which none is marked.
 fn unmarked(alloc: Global, count: usize) -> Result<Vec<bool>, NoMemory>
     ensures { IfOk result (λ marks. length marks.items ≡ count) }
@@ -52,7 +61,7 @@ fn mark_tables<'a, V: UnitVersion<'a>>(info: &'a [u8], rows: &mut Vec<bool>)
 }
 
 /// Where the pairs of a row begin.
-fn pairs_of(row: &mut Reader<'_>) -> Result<Option<u64>, Malformed> {
+pub fn pairs_of(row: &mut Reader<'_>) -> Result<Option<u64>, Malformed> {
     if row.u64()? == 0 {
         return Ok(None);
     }
@@ -92,13 +101,16 @@ fn mark_pair<'a, V: UnitVersion<'a>>(
     }
 }
 
-/// Where pairs begin that units have in their rows, and maybe others.
+/// Where rows of units and the pairs of these begin, and maybe others.
 pub fn marked_pairs<'a, V: UnitVersion<'a>>(
     alloc: Global,
     sections: &Sections5<'a>,
-) -> Result<Items<bool>, NoMemory>
+) -> Result<Marks, NoMemory>
     requires { length sections.now.base.abbreviations ≤ greatest_section }
-    ensures { IfOk result (λ marks. length marks ≡ length sections.now.base.abbreviations + 1) }
+    ensures rows { IfOk result (λ marks. length marks.rows
+        ≡ length sections.now.base.abbreviations + 1) }
+    ensures pairs { IfOk result (λ marks. length marks.pairs
+        ≡ length sections.now.base.abbreviations + 1) }
 {
     let section = sections.abbreviations();
     let len = section.len();
@@ -106,14 +118,18 @@ pub fn marked_pairs<'a, V: UnitVersion<'a>>(
     let mut pairs = unmarked(alloc, len + 1)?;
     mark_tables::<V>(sections.base.info, &mut rows);
     mark_all::<V>(section, &mut rows, &mut pairs);
-    Ok(Items::from_vec(pairs))
+    Ok(Marks {
+        rows: Items::from_vec(rows),
+        pairs: Items::from_vec(pairs),
+    })
 }
 
 /// Marks where pairs begin, from the rows that are marked on.
 fn mark_all<'a, V: UnitVersion<'a>>(section: &'a [u8], rows: &mut Vec<bool>, pairs: &mut Vec<bool>)
     requires rows { length rows.old.items ≡ length section.now + 1 }
     requires pairs { length pairs.old.items ≡ length section.now + 1 }
-    ensures { length pairs.new.items ≡ length pairs.old.items }
+    ensures rows { length rows.new.items ≡ length rows.old.items }
+    ensures pairs { length pairs.new.items ≡ length pairs.old.items }
 {
     let mut at = 0;
     'offsets: while at < pairs.len() {

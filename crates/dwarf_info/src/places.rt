@@ -4,7 +4,7 @@ ghost use Rattle.std.specs.Prelude.{◌≡◌, ◌==◌, ℕ, true, slice_get, S
 ghost use Rattle.std.specs.Option.{option_or};
 ghost use Rattle.dwarf_info.specs.Units.{entries_in};
 ghost use Rattle.dwarf_info.specs.calls.EntryPlaces.{place_in, place_among};
-ghost use Rattle.dwarf_info.specs.inner.Settling.{placed, placed_by, meets};
+ghost use Rattle.dwarf_info.specs.inner.Settling.{placed, placed_by, place_of, meets};
 ghost use Rattle.dwarf_info.specs.inner.Ascending.{ascends_from};
 
 use crate::entry::{Entry, UnitAnswer};
@@ -22,11 +22,13 @@ pub struct EntryPlace {
     pub entry: usize,
 }
 
-/// An offset of the section, and where the entry with that offset stands.
+/// An offset of the section, and where the entry with that offset stands: the number of its unit, and
+/// its own number there.
 #[derive(Clone, Copy, Debug, PartialEq, Eq)]
 pub struct PlacedEntry {
     pub at: u32,
-    pub place: EntryPlace,
+    pub unit: u32,
+    pub entry: u32,
 }
 
 /// Entries with their places, which contracts see as the list. Of several with one offset the first
@@ -65,13 +67,22 @@ fn are_ascending(entries: &[PlacedEntry]) -> bool
     true
 }
 
+fn place_of(entry: PlacedEntry) -> EntryPlace
+    ensures { result ≡ place_of entry }
+{
+    EntryPlace {
+        unit: entry.unit as usize,
+        entry: entry.entry as usize,
+    }
+}
+
 /// The place of an entry, if it has that offset.
 fn place_if(entry: Option<PlacedEntry>, at: u32) -> Option<EntryPlace>
     ensures { result ≡ placed_by at entry }
 {
     match entry {
         Some(entry) => if entry.at == at {
-            Some(entry.place)
+            Some(place_of(entry))
         } else {
             None
         },
@@ -99,7 +110,7 @@ fn searched(entries: &[PlacedEntry], at: u32) -> Option<EntryPlace>
     ensures { result ≡ placed entries.now at }
 {
     match entries.iter().find(|entry| entry.at == at) {
-        Some(entry) => Some(entry.place),
+        Some(entry) => Some(place_of(*entry)),
         None => None,
     }
 }
@@ -110,7 +121,12 @@ fn add_entry(rows: &mut Items<PlacedEntry>, at: u32, place: EntryPlace) -> Resul
     ensures { OnOk result ((q : ℕ) → placed rows.new q
         ≡ option_or (placed rows.old q) (if at == q then Some place else None)) }
 {
-    rows.push(PlacedEntry { at, place })
+    if place.unit > 0xFFFF_FFFF || place.entry > 0xFFFF_FFFF {
+        return Err(NoMemory);
+    }
+    let unit = place.unit as u32;
+    let entry = place.entry as u32;
+    rows.push(PlacedEntry { at, unit, entry })
 }
 
 fn add_entries<'a>(

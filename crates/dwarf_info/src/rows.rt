@@ -54,6 +54,7 @@ fn read_anew<'a, V: UnitVersion<'a>>(
 
 /// Pairs that are known, whose end mark the reader then stands behind.
 fn read_known<'a>(
+    alloc: Global,
     section: &'a [u8],
     lists: &Rc<SlotLists>,
     known: PairsAt,
@@ -67,7 +68,7 @@ fn read_known<'a>(
     match known {
         PairsAt::Listed { list, end } => {
             *reader = Reader::starting_at(section, end as usize);
-            Ok(Slots::of(lists, list)?)
+            Ok(Slots::of(alloc, lists, list)?)
         }
         PairsAt::Fault(at) => Err(ItemFault::At(at)),
     }
@@ -87,7 +88,7 @@ fn read_slots<'a, V: UnitVersion<'a>>(
 {
     let start = reader.at();
     match pairs.found_at(start as u64) {
-        Some(known) => read_known(section, &pairs.lists, known, reader),
+        Some(known) => read_known(alloc, section, &pairs.lists, known, reader),
         None => read_anew::<V>(alloc, reader),
     }
 }

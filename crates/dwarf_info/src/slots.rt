@@ -76,11 +76,18 @@ impl Model for SlotLists {
     ghost invariant = { λ l. AreKept l.kept };
 }
 
-/// The attributes of an abbreviation, which its entries share. Contracts see them as the list.
+/// One of the lists of attributes that rows share.
 #[derive(Drop)]
-pub struct Slots {
+struct SharedSlots {
     lists: Rc<SlotLists>,
     list: u32,
+}
+
+/// The attributes of an abbreviation, which its entries share: each holds no more than where they
+/// are. Contracts see them as the list.
+#[derive(Drop)]
+pub struct Slots {
+    row: Rc<SharedSlots>,
 }
 
 impl Model for Slots {
@@ -90,7 +97,7 @@ impl Model for Slots {
 
     ghost Value = { List Slot };
 
-    ghost view = { λ s. list_of s.lists.value s.list };
+    ghost view = { λ s. list_of s.row.value.lists.value s.row.value.list };
 }
 
 /// Where a value stands, behind so many that take bytes.
@@ -308,6 +315,16 @@ fn add_slots(lists: &mut SlotLists, slots: &[Slot]) -> Result<u32, NoMemory>
     Ok(list)
 }
 
+/// What entries share of a list.
+fn shared_row(alloc: Global, lists: Rc<SlotLists>, list: u32) -> Result<Slots, NoMemory>
+    ensures { IfOk result (λ slots. slots ≡ list_of lists.value list) }
+{
+    match Rc::new(alloc, SharedSlots { lists, list }) {
+        Ok(row) => Ok(Slots { row }),
+        Err(_) => Err(NoMemory),
+    }
+}
+
 impl Slots {
     /// The attributes of an abbreviation.
     pub fn new(alloc: Global, slots: &[Slot]) -> Result<Self, NoMemory>
@@ -316,34 +333,34 @@ impl Slots {
         let mut lists = SlotLists::new(alloc);
         let list = add_slots(&mut lists, slots)?;
         match Rc::new(alloc, lists) {
-            Ok(lists) => Ok(Slots { lists, list }),
+            Ok(lists) => shared_row(alloc, lists, list),
             Err(_) => Err(NoMemory),
         }
     }
 
     /// The list of a number, of which no copy is made.
-    pub(crate) fn of(lists: &Rc<SlotLists>, list: u32) -> Result<Slots, NoMemory>
+    pub(crate) fn of(alloc: Global, lists: &Rc<SlotLists>, list: u32) -> Result<Slots, NoMemory>
         ensures { IfOk result (λ slots. slots ≡ list_of lists.now.value list) }
     {
         let lists = lists.clone()?;
-        Ok(Slots { lists, list })
+        shared_row(alloc, lists, list)
     }
 
     /// The same, of which no copy is made.
     pub(crate) fn shared(&self) -> Result<Slots, NoMemory>
         ensures { IfOk result (λ shared. shared ≡ self.now) }
     {
-        let lists = self.lists.clone()?;
-        let list = self.list;
-        Ok(Slots { lists, list })
+        let row = self.row.clone()?;
+        Ok(Slots { row })
     }
 
     /// Where the first value of an attribute stands.
     pub(crate) fn place(&self, name: u64) -> Option<SlotPlace>
         ensures { result ≡ placed_in name self.now 0 }
     {
-        let lists: &SlotLists = &self.lists;
-        lists.place(self.list, name)
+        let row: &SharedSlots = &self.row;
+        let lists: &SlotLists = &row.lists;
+        lists.place(row.list, name)
     }
 
     /// Each attribute with its value.
@@ -354,8 +371,9 @@ impl Slots {
     ) -> Result<Items<Attribute<'a>>, NoMemory>
         ensures { IfOk result (λ all. all ≡ joined self.now own.now) }
     {
-        let lists: &SlotLists = &self.lists;
-        all_of(alloc, lists, self.list, own)
+        let row: &SharedSlots = &self.row;
+        let lists: &SlotLists = &row.lists;
+        all_of(alloc, lists, row.list, own)
     }
 
     /// The values of the attributes that take bytes, which stand at a place.
@@ -370,7 +388,8 @@ impl Slots {
         ensures count { IfOk result (λ own. length own ≡ length (own_slots self.now)) }
         ensures stays { OnOk result (Stays reader.old reader.new) }
     {
-        let lists: &SlotLists = &self.lists;
-        read_own::<V>(alloc, context, lists, self.list, reader)
+        let row: &SharedSlots = &self.row;
+        let lists: &SlotLists = &row.lists;
+        read_own::<V>(alloc, context, lists, row.list, reader)
     }
 }

@@ -12,13 +12,16 @@ use Rattle.dwarf_info.specs.declared.entry.Unit.{Unit as UnitTree}
 use Rattle.dwarf_info.specs.declared.entry.UnitAnswer.{UnitAnswer}
 use Rattle.dwarf_info.specs.declared.entry.UnitAnswer.TheVariants.{Tree, Unreadable}
 
+abbrev pub place_of : PlacedEntry → EntryPlace
+place_of e = record { unit = e.unit; entry = e.entry }
+
 -- the place of the first entry with an offset
 abbrev pub placed : List PlacedEntry → ℕ → Option EntryPlace
-placed entries at = option_map (λ e. e.place) (find (λ e. e.at == at) entries)
+placed entries at = option_map place_of (find (λ e. e.at == at) entries)
 
 -- the place of an entry, if it has that offset
 abbrev pub placed_by : ℕ → Option PlacedEntry → Option EntryPlace
-placed_by at (Some e) = if e.at == at then Some e.place else None
+placed_by at (Some e) = if e.at == at then Some (place_of e) else None
 placed_by at None = None
 
 -- An entry stands there.

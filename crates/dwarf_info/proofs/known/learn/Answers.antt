@@ -1,4 +1,4 @@
-use Rattle.std.proofs.Common.{◌≡◌, ◌≤◌, ◌<◌, ℕ, Some, None, Ok, Err, length, sym, ap, subst, ◌∙◌, arith, refl}
+use Rattle.std.proofs.Common.{◌≡◌, ◌≤◌, ◌<◌, Ok, length, sym, ap, subst, ◌∙◌, arith, refl}
 use Rattle.std.specs.Prelude.{Option}
 use Rattle.wasm_bytes.specs.Place.{Place}
 use Rattle.dwarf_info.specs.declared.form.Slot.{Slot}

@@ -1,13 +1,12 @@
-use Rattle.std.proofs.Common.{◌≡◌, ℕ, Some, sym, ap, subst, ◌∙◌}
+use Rattle.std.proofs.Common.{◌≡◌, ℕ, List, Some, sym, ap, subst, ◌∙◌}
 use Rattle.std.specs.Prelude.{Option, IfSome}
 use Rattle.std.specs.Ordering.{nat_cmp}
 use Rattle.std.specs.BTreeMap.{get}
-use Rattle.wasm_bytes.specs.Place.{Place, Read}
+use Rattle.wasm_bytes.specs.Place.{Read}
 use Rattle.wasm_bytes.specs.calls.Answers.{Gives}
 use Rattle.dwarf_info.specs.declared.form.Slot.{Slot}
 use Rattle.dwarf_info.specs.declared.known.PairsAt.{PairsAt}
 use Rattle.dwarf_info.specs.calls.Pairs.{AreThere, IsRight, told}
-use Rattle.std.specs.Prelude.{List}
 use Rattle.dwarf_info.proofs.RowLaws.{place_is}
 use Rattle.dwarf_info.proofs.PairLaws.{place, ended_told}
 use Rattle.dwarf_info.proofs.rows.read_slots.Goals as goal
