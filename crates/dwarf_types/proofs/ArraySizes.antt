@@ -10,7 +10,8 @@ use Rattle.dwarf_info.specs.declared.entry.Entry.{Entry}
 use Rattle.dwarf_entries.specs.Tags.{tag_subrange}
 use Rattle.dwarf_entries.specs.Standing.{Standing, is_child, entries_inside, children_tagged}
 use Rattle.dwarf_types.specs.Counts.{subrange_count, one_at_least, counts}
-use Rattle.dwarf_types.specs.Sizes.{times, array_size, rows_size}
+use Rattle.dwarf_types.specs.Products.{times, array_size}
+use Rattle.dwarf_types.specs.Sizes.{rows_size}
 
 array_append : (xs ys : List (Option ℕ)) (size : Option ℕ) → array_size (xs ++ ys) size ≡ array_size xs (array_size ys size)
 unfolding array_size

@@ -1,2 +1,5 @@
 pub mod Fuel
 pub mod ArraySizes
+pub mod SizeLaws
+pub mod OwnLaws
+pub mod KeptLaws

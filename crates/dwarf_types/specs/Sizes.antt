@@ -1,5 +1,5 @@
 -- Sizes of types (DWARF 4, 2.21, 5.1 and 5.4; wasm32 has pointers of 4 bytes).
-use Rattle.std.specs.Prelude.{ℕ, suc, ◌*◌, ◌^◌, nat_lt, Bool, ℤ, List, [], ◌∷◌, drop, Option, Some, None, if◌then◌else◌}
+use Rattle.std.specs.Prelude.{ℕ, suc, Bool, ℤ, List, drop, Option, Some, None}
 use Rattle.std.specs.Option.{is_some}
 use Rattle.dwarf_info.specs.declared.entry.UnitAnswer.{UnitAnswer}
 use Rattle.dwarf_info.specs.Attributes.{valued, as_number}
@@ -12,16 +12,7 @@ use Rattle.dwarf_types.specs.declared.behind.Typed.{Typed}
 use Rattle.dwarf_types.specs.declared.behind.Typed.TheVariants as typeds
 use Rattle.dwarf_types.specs.Types.{class_at, type_at, type_of}
 use Rattle.dwarf_types.specs.Counts.{counts}
-
--- so many sizes, where the product is below 2 ^ 64
-abbrev pub times : Option ℕ → Option ℕ → Option ℕ
-times (Some n) (Some size) = if nat_lt (n * size) (2 ^ 64) then Some (n * size) else None
-times _ _ = None
-
--- arrays of arrays, of which the innermost has elements of this size
-unfoldable pub array_size : List (Option ℕ) → Option ℕ → Option ℕ
-array_size [] size = size
-array_size (c ∷ cs) size = times c (array_size cs size)
+use Rattle.dwarf_types.specs.Products.{array_size}
 
 -- the size that an entry states, or else another one
 abbrev pub own_size : Option ℤ → Option ℕ → Option ℕ

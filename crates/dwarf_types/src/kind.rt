@@ -5,6 +5,7 @@ ghost use Rattle.dwarf_types.specs.Kinds as kinds;
 
 use crate::behind::{Behind, resolved, type_at};
 use crate::class::{Class, class_of};
+use crate::typed_units::TypedUnits;
 use dwarf_entries::names::ENCODING;
 use dwarf_entries::{LONGEST_CHAIN, Standing, natural, type_entry};
 use dwarf_info::Units;
@@ -65,7 +66,7 @@ fn kind_as<'r, 'a>(units: &'r Units<'a>, standing: &Standing<'r, 'a>) -> Kind
 
 /// What stands behind the type at an offset of the section.
 #[tactic(auto, unfolding(crate::specs::Kinds::kind))]
-pub fn kind_of(units: &Units<'_>, entry: u32) -> Kind
+pub fn kind_of(units: &TypedUnits<'_, '_, '_>, entry: u32) -> Kind
     ensures { result ≡ kinds.kind units.now entry }
 {
     match resolved(units, LONGEST_CHAIN, type_at(units, entry)) {
@@ -74,6 +75,6 @@ pub fn kind_of(units: &Units<'_>, entry: u32) -> Kind
         Behind::Stands {
             standing,
             skipped: _,
-        } => kind_as(units, &standing),
+        } => kind_as(units.units(), standing.standing()),
     }
 }

@@ -1,23 +1,26 @@
 //! Sizes of types (DWARF 4 sections 2.21, 5.1 and 5.4).
 
-ghost use Rattle.std.specs.Prelude.{◌≡◌, ◌||◌, nat_lt, map, filter, find, None};
+ghost use Rattle.std.specs.Prelude.{◌≡◌, ◌||◌, nat_lt, map, filter, find, Some, None};
 ghost use Rattle.std.specs.Option.{is_some};
 ghost use Rattle.dwarf_entries.specs.Standing.{is_child, entries_inside};
 ghost use Rattle.dwarf_entries.specs.Tags.{tag_subrange};
 ghost use Rattle.dwarf_types.specs.Counts.{subrange_count};
+ghost use Rattle.dwarf_types.specs.Products as products;
 ghost use Rattle.dwarf_types.specs.Sizes as sizes;
 
 use crate::behind::{Typed, type_at, type_of};
 use crate::class::{Class, class_of};
 use crate::counts::{has_subranges, subrange_count, subranges_behind};
+use crate::type_standing::TypeStanding;
+use crate::typed_units::TypedUnits;
 use dwarf_entries::names::BYTE_SIZE;
 use dwarf_entries::tags::SUBRANGE;
 use dwarf_entries::{LONGEST_CHAIN, Standing, as_natural, attribute, is_child};
-use dwarf_info::{AttrValue, Entry, Units};
+use dwarf_info::{AttrValue, Entry};
 
 /// So many sizes, where the product is below 2^64.
-fn times(count: Option<u128>, size: Option<u64>) -> Option<u64>
-    ensures { result ≡ sizes.times count size }
+pub(crate) fn times(count: Option<u128>, size: Option<u64>) -> Option<u64>
+    ensures { result ≡ products.times count size }
 {
     let count = count?;
     let size = u128::from(size?);
@@ -33,7 +36,7 @@ fn times(count: Option<u128>, size: Option<u64>) -> Option<u64>
 /// The size of arrays of arrays, whose subranges are among the entries, and whose innermost
 /// elements have this size.
 fn array_size(entries: &[Entry<'_>], depth: u32, element: Option<u64>) -> Option<u64>
-    ensures { result ≡ sizes.array_size
+    ensures { result ≡ products.array_size
         (map subrange_count (filter (is_child depth tag_subrange) entries.now)) element }
 {
     let mut size = element;
@@ -57,9 +60,9 @@ fn is_counted(standing: &Standing<'_, '_>, skipped: usize) -> bool
     skipped > 0 || has_subranges(standing.inside(), standing.entry().depth)
 }
 
-/// The size of an array without its first so many subranges.
+/// The size of an array without its first so many subranges, which are read.
 #[tactic(auto, using(crate::proofs::ArraySizes::rows_unknown, crate::proofs::ArraySizes::rows_known))]
-fn rows_size(standing: &Standing<'_, '_>, skipped: usize, element: Option<u64>) -> Option<u64>
+fn rows_read(standing: &Standing<'_, '_>, skipped: usize, element: Option<u64>) -> Option<u64>
     ensures { result ≡ sizes.rows_size standing.now skipped element }
 {
     if !is_counted(standing, skipped) {
@@ -71,6 +74,33 @@ fn rows_size(standing: &Standing<'_, '_>, skipped: usize, element: Option<u64>) 
         depth,
         element,
     )
+}
+
+/// The size of an array without its first so many subranges, where its innermost elements have a
+/// size.
+#[tactic(auto, using(crate::proofs::SizeLaws::rows_are))]
+fn rows_sized(standing: &TypeStanding<'_, '_, '_>, skipped: usize, element: u64) -> Option<u64>
+    ensures { result ≡ sizes.rows_size standing.now skipped (Some element) }
+{
+    match standing.rows_of(element) {
+        Some(rows) => rows.size(skipped),
+        None => rows_read(standing.standing(), skipped, Some(element)),
+    }
+}
+
+/// The size of an array without its first so many subranges.
+#[tactic(auto, using(crate::proofs::SizeLaws::rows_without))]
+fn rows_size(
+    standing: &TypeStanding<'_, '_, '_>,
+    skipped: usize,
+    element: Option<u64>,
+) -> Option<u64>
+    ensures { result ≡ sizes.rows_size standing.now skipped element }
+{
+    match element {
+        Some(element) => rows_sized(standing, skipped, element),
+        None => None,
+    }
 }
 
 /// The size that an entry states.
@@ -93,7 +123,11 @@ fn states_size(standing: &Standing<'_, '_>) -> bool
 
 /// The size of a type, where at most so many type entries follow each other.
 #[tactic(auto, using(crate::proofs::Fuel::size_none, crate::proofs::Fuel::size_spent, crate::proofs::Fuel::size_more))]
-fn size_within<'r, 'a>(units: &'r Units<'a>, most: u32, typed: &Typed<'r, 'a>) -> Option<u64>
+fn size_within<'r, 'k, 'a>(
+    units: &TypedUnits<'r, 'k, 'a>,
+    most: u32,
+    typed: &Typed<'r, 'k, 'a>,
+) -> Option<u64>
     ensures { result ≡ sizes.size_within units.now most typed.now }
 {
     let Typed::At { standing, skipped } = typed else {
@@ -111,18 +145,21 @@ fn size_within<'r, 'a>(units: &'r Units<'a>, most: u32, typed: &Typed<'r, 'a>) -
             rows_size(standing, *skipped, element)
         }
         Class::Enumeration => {
-            if states_size(standing) {
-                stated_size(standing)
+            if states_size(standing.standing()) {
+                stated_size(standing.standing())
             } else {
                 size_within(units, most - 1, &type_of(units, attributes))
             }
         }
-        Class::Members | Class::Base | Class::Another => stated_size(standing),
+        Class::Members | Class::Base | Class::Another => stated_size(standing.standing()),
     }
 }
 
 /// The size of a type in bytes, where it has one.
-pub fn type_size<'r, 'a>(units: &'r Units<'a>, typed: &Typed<'r, 'a>) -> Option<u64>
+pub fn type_size<'r, 'k, 'a>(
+    units: &TypedUnits<'r, 'k, 'a>,
+    typed: &Typed<'r, 'k, 'a>,
+) -> Option<u64>
     ensures { result ≡ sizes.type_size units.now typed.now }
 {
     size_within(units, LONGEST_CHAIN, typed)
@@ -130,7 +167,7 @@ pub fn type_size<'r, 'a>(units: &'r Units<'a>, typed: &Typed<'r, 'a>) -> Option<
 
 /// The size of the type at an offset of the section in bytes, where it has one.
 #[tactic(auto, unfolding(crate::specs::Sizes::size))]
-pub fn size_of(units: &Units<'_>, entry: u32) -> Option<u64>
+pub fn size_of(units: &TypedUnits<'_, '_, '_>, entry: u32) -> Option<u64>
     ensures { result ≡ sizes.size units.now entry }
 {
     type_size(units, &type_at(units, entry))

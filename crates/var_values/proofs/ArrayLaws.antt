@@ -1,15 +1,18 @@
 -- Arrays of values, by their rows.
-use Rattle.std.proofs.Common.{◌≡◌, ℕ, ◌+◌, ◌-◌, ◌*◌, true, false, List, [], ◌∷◌, ◌++◌, Option, None, Ok, length, refl, sym, ap, ◌∙◌, arith}
-use Rattle.std.specs.Prelude.{ℤ, pos, ◌+ℤ◌, map, reverse, ◌==◌, unwrap_or}
+use Rattle.std.proofs.Common.{◌≡◌, ℕ, zero, suc, ◌+◌, ◌-◌, ◌*◌, ◌<◌, ◌≤◌, List, [], ◌∷◌, ◌++◌, Option, Some, None, Ok, length, drop, refl, sym, ap, subst, ◌∙◌, arith}
+use Rattle.std.specs.Prelude.{ℤ, pos, ◌+ℤ◌, map, IsSome, unwrap_or}
 use Rattle.std.specs.List.{range_with_len}
 use Rattle.std.proofs.lemmas.Int.{ints}
-use Rattle.std.proofs.lemmas.List.{length-reverse}
-use Rattle.std.proofs.lemmas.Bool.Decides.{nat_tests}
+use Rattle.std.proofs.Math.ListN.{drop_of_length-le}
+use Rattle.dwarf_types.specs.declared.behind.Typed.{Typed}
+use Rattle.dwarf_types.specs.Products.{array_size}
+use Rattle.dwarf_types.specs.calls.Subranges.{Subranges, size_behind}
 use Rattle.var_values.specs.Places.{Place, further}
 use Rattle.var_values.specs.Values.{Text, in_place, braced, dots, row_size, array_text}
 use Rattle.var_values.specs.declared.levels.Level.{Level}
 use Rattle.var_values.specs.calls.Told.{Tells}
-use Rattle.var_values.specs.inner.Odometer.{level_of, levels, shown, rows_text}
+use Rattle.var_values.specs.inner.Odometer.{levels, sized_levels, levels_behind, shown, rows_text}
+use Rattle.var_values.proofs.BehindLaws.{sized_are}
 use Rattle.var_values.proofs.ValueLaws.{text_tells}
 
 sum_of : (x : ℤ) (a b : ℕ) → ((x +ℤ pos a) +ℤ pos b) ≡ (x +ℤ pos (a + b))
@@ -51,25 +54,33 @@ array_is text c cs size p =
     start : (n : ℕ) → 0 + n ≡ n
     start n = omega arith
 
-not_empty : (l : Level) (ls xs : List Level) → reverse xs ≡ [] → reverse xs ≡ l ∷ ls → ⊥
-not_empty l ls xs none some = let no : [] ≡ l ∷ ls = sym none ∙ some in cc
-
-no_levels : (xs : List Level) → (length xs == 0) ≡ true → reverse xs ≡ []
-no_levels [] e = refl
-no_levels (x ∷ xs) e = absurd (let none : length (x ∷ xs) ≡ 0 = grind (arith, nat_tests) in omega (arith, none))
-
-some_levels : (xs : List Level) → (length xs == 0) ≡ false → reverse xs ≡ [] → ⊥
-some_levels [] e none = let no : true ≡ false = e in cc
-some_levels (x ∷ xs) e none = let zero_length : length (reverse (x ∷ xs)) ≡ 0 = ap length none in omega (arith, zero_length, length-reverse (x ∷ xs))
-
 -- behind all subranges
-pub rows_none : (text : Place → Text) (cs : List (Option ℕ)) (size : ℕ) (p : Place) (xs : List Level) → reverse xs ≡ levels cs size → (length xs == 0) ≡ true → array_text text cs size p ≡ text p
-rows_none text [] size p xs are e = refl
-rows_none text (c ∷ cs) size p xs are e = absurd (not_empty (level_of c (row_size cs size)) (levels cs size) xs (no_levels xs e) are)
+pub rows_none : (text : Place → Text) (a : Subranges) (k : ℕ) (p : Place) → length a.counts ≤ k → array_text text (drop k a.counts) a.element p ≡ text p
+rows_none text a k p past = ap (λ (cs : List (Option ℕ)). array_text text cs a.element p) (drop_of_length-le a.counts past)
 
-pub rows_tell : (text : Place → Text) (cs : List (Option ℕ)) (size : ℕ) (p : Place) (xs : List Level) (old new : List ℕ) → reverse xs ≡ levels cs size → (length xs == 0) ≡ false
-    → new ≡ old ++ rows_text (λ y. in_place (text (further p (pos y)))) (reverse xs) 0 → Tells (array_text text cs size p) None old new
-rows_tell text [] size p xs old new are e written = absurd (some_levels xs e are)
-rows_tell text (c ∷ cs) size p xs old new are e written =
+some_behind : (cs : List (Option ℕ)) (k : ℕ) → k < length cs → drop k cs ≡ [] → ⊥
+some_behind [] k lt none = omega arith
+some_behind (c ∷ cs) zero lt none = let no : c ∷ cs ≡ [] = none in cc
+some_behind (c ∷ cs) (suc k) lt none = let less : k < length cs = omega arith in some_behind cs k less none
+
+rows_by : (text : Place → Text) (cs : List (Option ℕ)) (size : ℕ) (p : Place) (old new : List ℕ) → (cs ≡ [] → ⊥) → IsSome (array_size cs (Some size))
+    → new ≡ old ++ rows_text (λ y. in_place (text (further p (pos y)))) (sized_levels cs (Some size)) 0 → Tells (array_text text cs size p) None old new
+rows_by text [] size p old new some h written = absurd (some refl)
+rows_by text (c ∷ cs) size p old new some h written =
     text_tells (array_text text (c ∷ cs) size p) (rows_text (λ y. in_place (text (further p (pos y)))) (levels (c ∷ cs) size) 0) old new (array_is text c cs size p)
-    (written ∙ ap (λ (ls : List Level). old ++ rows_text (λ y. in_place (text (further p (pos y)))) ls 0) are)
+    (written ∙ ap (λ (ls : List Level). old ++ rows_text (λ y. in_place (text (further p (pos y)))) ls 0) (sized_are (c ∷ cs) size h))
+
+pub rows_tell : (text : Place → Text) (a : Subranges) (k : ℕ) (p : Place) (old new : List ℕ) → k < length a.counts → IsSome (size_behind a k)
+    → new ≡ old ++ rows_text (λ y. in_place (text (further p (pos y)))) (levels_behind a k) 0 → Tells (array_text text (drop k a.counts) a.element p) None old new
+rows_tell text a k p old new lt h written = rows_by text (drop k a.counts) a.element p old new (some_behind a.counts k lt) h written
+
+-- of what is known of an array
+pub array_known : (value : Typed → Place → Text) (t u : Typed) (a : Subranges) (cs : List (Option ℕ)) (k size : ℕ) (p : Place) → t ≡ u → a.counts ≡ cs → a.element ≡ size
+    → array_text (value t) (drop k a.counts) a.element p ≡ array_text (value u) (drop k cs) size p
+array_known value t u a cs k size p is are sized =
+    ap (λ (x : Typed). array_text (value x) (drop k a.counts) a.element p) is ∙ ap (λ (xs : List (Option ℕ)). array_text (value u) (drop k xs) a.element p) are
+    ∙ ap (λ (n : ℕ). array_text (value u) (drop k cs) n p) sized
+
+pub size_known : (a : Subranges) (cs : List (Option ℕ)) (k size : ℕ) → a.counts ≡ cs → a.element ≡ size → IsSome (array_size (drop k cs) (Some size)) → IsSome (size_behind a k)
+size_known a cs k size are sized h =
+    subst (λ (o : Option ℕ). IsSome o) (sym (ap (λ (xs : List (Option ℕ)). array_size (drop k xs) (Some a.element)) are ∙ ap (λ (n : ℕ). array_size (drop k cs) (Some n)) sized)) h

@@ -1,36 +1,24 @@
 -- The levels of an array: its counts, and its size.
-use Rattle.std.proofs.Common.{◌≡◌, ℕ, zero, suc, ◌+◌, ◌-◌, ◌*◌, ◌<◌, ◌≤◌, Bool, true, false, List, [], ◌∷◌, ◌++◌, Option, Some, None, length, take, drop, get_or, refl, sym, ap, subst, ◌∙◌, arith}
-use Rattle.std.specs.Prelude.{◌^◌, IsSome, map, filter, reverse, nat_lt, if◌then◌else◌, unwrap_or, ℤ}
+use Rattle.std.proofs.Common.{◌≡◌, ℕ, zero, suc, ◌-◌, ◌*◌, ◌<◌, ◌≤◌, Bool, true, false, List, [], ◌∷◌, Option, Some, None, drop, refl, sym, ap, subst, ◌∙◌, arith}
+use Rattle.std.specs.Prelude.{◌^◌, IsSome, nat_lt, if◌then◌else◌, unwrap_or, ℤ}
 use Rattle.std.proofs.lemmas.Bool.Decides.{nat_tests}
-use Rattle.std.proofs.lemmas.List.{reverse-append}
 use Rattle.dwarf_info.specs.declared.entry.UnitAnswer.{UnitAnswer}
 use Rattle.dwarf_info.specs.Attributes.{valued, as_number}
 use Rattle.dwarf_entries.specs.Names.{at_byte_size}
-use Rattle.dwarf_entries.specs.Standing.{Standing, is_child, entries_inside, children_tagged}
-use Rattle.dwarf_entries.specs.Tags.{tag_subrange}
-use Rattle.dwarf_info.specs.declared.entry.Entry.{Entry}
+use Rattle.dwarf_entries.specs.Standing.{Standing}
 use Rattle.dwarf_types.specs.declared.class.Class.{Class}
 use Rattle.dwarf_types.specs.declared.class.Class.TheVariants as classes
 use Rattle.dwarf_types.specs.declared.behind.Typed.{Typed}
 use Rattle.dwarf_types.specs.declared.behind.Typed.TheVariants as typeds
 use Rattle.dwarf_types.specs.Types.{class_at, type_of}
-use Rattle.dwarf_types.specs.Counts.{subrange_count, one_at_least, counts}
-use Rattle.dwarf_types.proofs.ArraySizes.{last_counts, last_passed, map_drop, drop_none}
-use Rattle.dwarf_types.specs.Sizes.{times, array_size, own_size, rows_size, size_as, size_within, type_size}
+use Rattle.dwarf_types.specs.Counts.{counts}
+use Rattle.dwarf_types.proofs.SizeLaws.{times_none, none_size}
+use Rattle.dwarf_types.specs.Products.{times, array_size}
+use Rattle.dwarf_types.specs.Sizes.{own_size, rows_size, size_as, size_within, type_size}
 use Rattle.var_values.specs.Values.{row_size}
-use Rattle.var_values.specs.declared.levels.Level.{Level}
-use Rattle.var_values.specs.inner.Odometer.{level_of, levels, whole, AreNested}
+use Rattle.var_values.specs.inner.Odometer.{levels, whole, AreNested}
 
-times_none : (c : Option ℕ) → times c None ≡ None
-times_none None = refl
-times_none (Some n) = refl
-
-none_size : (cs : List (Option ℕ)) → array_size cs None ≡ None
-unfolding array_size
-none_size [] = refl
-none_size (c ∷ cs) = ap (times c) (none_size cs) ∙ times_none c
-
-no_some : {P : Type 0} (o : Option ℕ) → o ≡ None → IsSome o → P
+pub no_some : {P : Type 0} (o : Option ℕ) → o ≡ None → IsSome o → P
 no_some None e h = absurd (let no : false ≡ true = h in cc)
 no_some (Some x) e h = absurd (let no : Some x ≡ None = e in cc)
 
@@ -114,56 +102,8 @@ pub counted : (units : List UnitAnswer) (s : Standing) (k : ℕ) → class_at s 
 counted units s k class h =
     counted_by units s k (size_within units 15 (type_of units s.entry.attributes)) refl (subst (λ (o : Option ℕ). IsSome o) (rows_of units s k class) h)
 
--- ---- one more level outside of the others
+-- ---- of an array with a size
 
-pub level_more : (xs more : List Level) (c : Option ℕ) (cs : List (Option ℕ)) (size step : ℕ) → reverse xs ≡ levels cs size → step ≡ row_size cs size → more ≡ xs ++ level_of c step ∷ []
-    → reverse more ≡ levels (c ∷ cs) size
-level_more xs more c cs size step are is all =
-    ap reverse all ∙ reverse-append xs (level_of c step ∷ []) ∙ ap (λ (ls : List Level). level_of c step ∷ ls) are ∙ ap (λ (n : ℕ). level_of c n ∷ levels cs size) is
-
-pub step_more : (c : Option ℕ) (cs : List (Option ℕ)) (size step next : ℕ) → step ≡ row_size cs size → Some next ≡ times c (Some step) → next ≡ row_size (c ∷ cs) size
-step_more c cs size step next is e = sym ((times_some c step next (sym e)).0) ∙ ap (λ (n : ℕ). unwrap_or c 0 * n) is
-
-pub step_fits : (cs : List (Option ℕ)) (inner : Option ℕ) → IsSome (array_size cs inner) → IsSome inner
-step_fits cs None h = no_some (array_size cs None) (none_size cs) h
-step_fits cs (Some n) h = refl
-
--- of the last one of some entries
-pub last_fits : {E : Type 0} (count : E → Option ℕ) (test : E → Bool) (xs : List E) (k : ℕ) (e : E) (step : ℕ) → k < length xs → e ≡ get_or xs k e → test e ≡ true
-    → IsSome (array_size (map count (filter test (take (k + 1) xs))) (Some step)) → IsSome (array_size (map count (filter test (take k xs))) (times (count e) (Some step)))
-last_fits count test xs k e step lt is passes h = subst (λ (o : Option ℕ). IsSome o) (last_counts count test xs k e (Some step) lt is passes) h
-
-pub last_passes : {E : Type 0} (count : E → Option ℕ) (test : E → Bool) (xs : List E) (k : ℕ) (e : E) (step : ℕ) → k < length xs → e ≡ get_or xs k e → test e ≡ false
-    → IsSome (array_size (map count (filter test (take (k + 1) xs))) (Some step)) → IsSome (array_size (map count (filter test (take k xs))) (Some step))
-last_passes count test xs k e step lt is fails h = subst (λ (o : Option ℕ). IsSome o) (last_passed count test xs k e (Some step) lt is fails) h
-
--- ---- the counts behind the first k of them
-
-rows_counted : {E : Type 0} (count : E → Option ℕ) (all rest : List E) (k : ℕ) (size : Option ℕ) → rest ≡ drop k all → IsSome (array_size (drop k (one_at_least (map count all))) size)
-    → map count rest ≡ drop k (one_at_least (map count all))
-unfolding array_size
-rows_counted count [] rest zero size are h = absurd (let no : false ≡ true = h in cc)
-rows_counted count [] rest (suc k) size are h = ap (map count) are ∙ sym (drop_none k)
-rows_counted count (x ∷ xs) rest k size are h = ap (map count) are ∙ map_drop count k (x ∷ xs)
-
-pub counts_behind : (s : Standing) (depth : ℕ) (inside rest : List Entry) (k : ℕ) (size : Option ℕ) → depth ≡ s.entry.depth → inside ≡ entries_inside s
-    → filter (is_child depth tag_subrange) rest ≡ drop k (filter (is_child depth tag_subrange) inside) → IsSome (rows_size s k size)
-    → map subrange_count (filter (is_child depth tag_subrange) rest) ≡ drop k (counts s)
-unfolding counts
-counts_behind s depth inside rest k size deep within are h =
-    let all = filter (is_child depth tag_subrange) inside in
-    let same : all ≡ children_tagged tag_subrange s = ap (λ (d : ℕ). filter (is_child d tag_subrange) inside) deep ∙ ap (filter (is_child s.entry.depth tag_subrange)) within in
-    let fits : IsSome (array_size (drop k (one_at_least (map subrange_count all))) size) = subst (λ (es : List Entry). IsSome (array_size (drop k (one_at_least (map subrange_count es))) size)) (sym same) h in
-    rows_counted subrange_count all (filter (is_child depth tag_subrange) rest) k size are fits
-    ∙ ap (λ (es : List Entry). drop k (one_at_least (map subrange_count es))) same
-
--- of levels that are those of an array with a size
-fit_of : (cs : List (Option ℕ)) (size : ℕ) (o : Option ℕ) → array_size cs (Some size) ≡ o → IsSome o → (total : ℕ) × Fit cs size total
+pub fit_of : (cs : List (Option ℕ)) (size : ℕ) (o : Option ℕ) → array_size cs (Some size) ≡ o → IsSome o → (total : ℕ) × Fit cs size total
 fit_of cs size None e h = absurd (let no : false ≡ true = h in cc)
 fit_of cs size (Some total) e h = (total, sizes_fit cs size total e)
-
-pub levels_nested : (s : Standing) (k size : ℕ) (xs : List Level) → IsSome (rows_size s k (Some size)) → reverse xs ≡ levels (drop k (counts s)) size → AreNested (reverse xs)
-levels_nested s k size xs h are = subst (λ (ls : List Level). AreNested ls) (sym are) ((fit_of (drop k (counts s)) size (rows_size s k (Some size)) refl h).1.nested)
-
-pub levels_fit : (s : Standing) (k size : ℕ) (xs : List Level) → IsSome (rows_size s k (Some size)) → reverse xs ≡ levels (drop k (counts s)) size → whole (reverse xs) < 2 ^ 64
-levels_fit s k size xs h are = subst (λ (ls : List Level). whole ls < 2 ^ 64) (sym are) ((fit_of (drop k (counts s)) size (rows_size s k (Some size)) refl h).1.fits)

@@ -4,6 +4,7 @@ pub mod RowLaws
 pub mod LevelLaws
 pub mod ValueLaws
 pub mod WordLaws
+pub mod BehindLaws
 pub mod ArrayLaws
 pub mod NearLaws
 pub mod MemberLaws

@@ -2,12 +2,13 @@
 use Rattle.std.proofs.Common.{◌≡◌, ℕ, zero, suc, ◌+◌, ◌-◌, ◌*◌, ◌<◌, ◌≤◌, Bool, true, false, List, [], ◌∷◌, ◌++◌, Option, Some, None, length, refl, sym, ap, ◌∙◌, append_assoc, subst, mul-le-mul_right, arith}
 use Rattle.std.specs.Prelude.{◌^◌, ◌↔◌, IsSome, nat_lt, if◌then◌else◌, map, reverse, codes}
 use Rattle.std.specs.List.{flat_map, range_with_len}
-use Rattle.std.proofs.lemmas.List.{reverse-append, append-nil, length-append}
+use Rattle.std.proofs.lemmas.List.{reverse-append, reverse-reverse, append-nil, length-append}
+use Rattle.dwarf_types.specs.calls.Subranges.{Subranges}
 use Rattle.var_values.specs.declared.levels.Level.{Level}
 use Rattle.var_values.specs.declared.levels.OpenRow.{OpenRow}
 use Rattle.var_values.specs.declared.levels.Rows.{Rows}
 use Rattle.var_values.specs.Values.{braced, dots, shown_elements}
-use Rattle.var_values.specs.inner.Odometer.{shown, rows_text, later, ending, behind, left_at, left, row, whole, AreNested, AreOpen, IsSoundAt, IsSound, rows_left, bit, extent}
+use Rattle.var_values.specs.inner.Odometer.{shown, rows_text, later, ending, behind, left_at, left, row, whole, AreNested, AreOpen, IsSoundAt, IsSound, all_closed, AreSound, rows_left, bit, extent}
 
 -- what stands behind k elements from number i on
 abbrev pub run : (ℕ → List ℕ) → ℕ → ℕ → ℕ → List ℕ
@@ -197,15 +198,28 @@ all_sound : (closed : List Level) → AreNested (reverse closed) → whole (reve
 unfolding IsSound
 all_sound closed nested fits = record { rows = nested; next = omega (arith, fits) }
 
-pub new_sound : (rows : List OpenRow) (closed : List Level) → rows ≡ [] → AreNested (reverse closed) → whole (reverse closed) < 2 ^ 64 → IsSound (Some 0) rows closed
-new_sound rows closed none nested fits = subst (λ (rs : List OpenRow). IsSound (Some 0) rs closed) (sym none) (all_sound closed nested fits)
+-- none is begun yet
+fresh : (ls own : List Level) → own ≡ [] → reverse ls ++ own ≡ reverse ls
+fresh ls own none = ap (λ (xs : List Level). reverse ls ++ xs) none ∙ append-nil (reverse ls)
+
+pub new_sound : (rows : List OpenRow) (ls own : List Level) → rows ≡ [] → own ≡ [] → AreNested ls → whole ls < 2 ^ 64 → IsSound (Some 0) rows (reverse ls ++ own)
+new_sound rows ls own none empty nested fits =
+    subst (λ (rs : List OpenRow). IsSound (Some 0) rs (reverse ls ++ own)) (sym none)
+    (subst (λ (xs : List Level). IsSound (Some 0) [] xs) (sym (fresh ls own empty))
+    (all_sound (reverse ls) (subst AreNested (sym (reverse-reverse ls)) nested) (subst (λ (xs : List Level). whole xs < 2 ^ 64) (sym (reverse-reverse ls)) fits)))
 
 all_left : (item : ℕ → List ℕ) (closed : List Level) → left item (Some 0) [] closed ≡ rows_text item (reverse closed) 0
 unfolding left behind
 all_left item closed = append-nil (rows_text item (reverse closed) 0)
 
-pub new_all : (item : ℕ → List ℕ) (rows : List OpenRow) (closed : List Level) → rows ≡ [] → left item (Some 0) rows closed ≡ rows_text item (reverse closed) 0
-new_all item rows closed none = ap (λ (rs : List OpenRow). left item (Some 0) rs closed) none ∙ all_left item closed
+pub new_all : (item : ℕ → List ℕ) (rows : List OpenRow) (ls own : List Level) → rows ≡ [] → own ≡ [] → left item (Some 0) rows (reverse ls ++ own) ≡ rows_text item ls 0
+new_all item rows ls own none empty =
+    ap (λ (rs : List OpenRow). left item (Some 0) rs (reverse ls ++ own)) none ∙ ap (left item (Some 0) []) (fresh ls own empty) ∙ all_left item (reverse ls)
+    ∙ ap (λ (xs : List Level). rows_text item xs 0) (reverse-reverse ls)
+
+-- one more that is closed again
+pub closed_more : (front own more : List Level) (l : Level) → more ≡ own ++ l ∷ [] → front ++ more ≡ (front ++ own) ++ l ∷ []
+closed_more front own more l is = ap (λ (xs : List Level). front ++ xs) is ∙ sym (append_assoc front own (l ∷ []))
 
 -- ---- what is written
 
@@ -251,41 +265,59 @@ small_bit : (p : Option ℕ) → bit p ≤ 1
 small_bit None = omega arith
 small_bit (Some z) = omega arith
 
-pub step_falls : (r new : Rows) (text mid all : List ℕ) → rows_left (λ z. []) r ≡ all → length text < length mid → text ++ all ≡ mid ++ rows_left (λ z. []) new → extent new < extent r
-step_falls r new text mid all is more keeps =
-    let lengths : length text + length all ≡ length mid + length (rows_left (λ z. []) new) = sym (length-append text all) ∙ ap length keeps ∙ length-append mid (rows_left (λ z. []) new) in
-    let same : length (rows_left (λ z. []) r) ≡ length all = ap length is in
+pub step_falls : (a : Subranges) (r new : Rows) (text mid all : List ℕ) → rows_left (λ z. []) a r ≡ all → length text < length mid → text ++ all ≡ mid ++ rows_left (λ z. []) a new → extent a new < extent a r
+step_falls a r new text mid all is more keeps =
+    let lengths : length text + length all ≡ length mid + length (rows_left (λ z. []) a new) = sym (length-append text all) ∙ ap length keeps ∙ length-append mid (rows_left (λ z. []) a new) in
+    let same : length (rows_left (λ z. []) a r) ≡ length all = ap length is in
     let bit : bit new.pending ≤ 1 = small_bit new.pending in
     omega (arith, lengths, same, bit, more)
 
-pub pending_left : (item : ℕ → List ℕ) (r : Rows) (z : ℕ) (closed : List Level) → r.pending ≡ Some z → r.closed ≡ closed → rows_left item r ≡ left item (Some z) r.begun closed
-pending_left item r z closed is are = ap (λ (p : Option ℕ). left item p r.begun r.closed) is ∙ ap (λ (ls : List Level). left item (Some z) r.begun ls) are
+-- what is left where a level was taken
+pub pending_left : (item : ℕ → List ℕ) (a : Subranges) (r taken : Rows) (z : ℕ) (closed : List Level) → r.pending ≡ Some z → taken.begun ≡ r.begun → all_closed a r ≡ closed
+    → rows_left item a r ≡ left item (Some z) taken.begun closed
+pending_left item a r taken z closed is same are =
+    ap (λ (p : Option ℕ). left item p r.begun (all_closed a r)) is ∙ ap (λ (ls : List Level). left item (Some z) r.begun ls) are ∙ ap (λ (rs : List OpenRow). left item (Some z) rs closed) (sym same)
 
-pub begun_left : (item : ℕ → List ℕ) (r : Rows) (rows : List OpenRow) → r.pending ≡ None → r.begun ≡ rows → rows_left item r ≡ left item None rows r.closed
-begun_left item r rows is are = ap (λ (p : Option ℕ). left item p r.begun r.closed) is ∙ ap (λ (rs : List OpenRow). left item None rs r.closed) are
+pub pending_sound : (a : Subranges) (r taken : Rows) (z : ℕ) (closed : List Level) → r.pending ≡ Some z → taken.begun ≡ r.begun → all_closed a r ≡ closed → AreSound a r
+    → IsSound (Some z) taken.begun closed
+pending_sound a r taken z closed is same are h =
+    subst (λ (rs : List OpenRow). IsSound (Some z) rs closed) (sym same)
+    (subst (λ (ls : List Level). IsSound (Some z) r.begun ls) are (subst (λ (p : Option ℕ). IsSound p r.begun (all_closed a r)) is h))
+
+pub begun_left : (item : ℕ → List ℕ) (a : Subranges) (r : Rows) (rows : List OpenRow) → r.pending ≡ None → r.begun ≡ rows → rows_left item a r ≡ left item None rows (all_closed a r)
+begun_left item a r rows is are =
+    ap (λ (p : Option ℕ). left item p r.begun (all_closed a r)) is ∙ ap (λ (rs : List OpenRow). left item None rs (all_closed a r)) are
+
+pub begun_open : (a : Subranges) (r : Rows) (rows : List OpenRow) → r.pending ≡ None → r.begun ≡ rows → AreSound a r → IsSound None rows (all_closed a r)
+begun_open a r rows is are h =
+    subst (λ (rs : List OpenRow). IsSound None rs (all_closed a r)) are (subst (λ (p : Option ℕ). IsSound p r.begun (all_closed a r)) is h)
+
+pub popped_sound : (a : Subranges) (r : Rows) (rows : List OpenRow) → r.begun ≡ rows → AreSound a r → IsSound r.pending rows (all_closed a r)
+popped_sound a r rows are h = subst (λ (rs : List OpenRow). IsSound r.pending rs (all_closed a r)) are h
 
 pub was_empty : {A : Type 0} (xs rest : List A) → xs ≡ rest ++ [] → (IsSome {T = A} None ↔ (0 < length xs)) → rest ≡ []
 was_empty [] rest is iff = sym (is ∙ append-nil rest)
 was_empty (x ∷ xs) rest is iff = absurd (let no : false ≡ true = iff.1 (omega arith) in cc)
 
-pub element_left : (item : ℕ → List ℕ) (r : Rows) (z : ℕ) (rest : List Level) → r.pending ≡ Some z → r.closed ≡ rest ++ [] → (IsSome {T = Level} None ↔ (0 < length r.closed))
-    → rows_left item r ≡ item z ++ left item None r.begun rest
-element_left item r z rest is are iff =
-    let none : rest ≡ [] = was_empty r.closed rest are iff in
-    pending_left item r z [] is (are ∙ append-nil rest ∙ none) ∙ row_item item r.begun z ∙ ap (λ (ls : List Level). item z ++ left item None r.begun ls) (sym none)
+pub element_left : (item : ℕ → List ℕ) (a : Subranges) (r taken : Rows) (z : ℕ) → r.pending ≡ Some z → taken.begun ≡ r.begun → all_closed a r ≡ all_closed a taken ++ [] → (IsSome {T = Level} None ↔ (0 < length (all_closed a r)))
+    → rows_left item a r ≡ item z ++ left item None taken.begun (all_closed a taken)
+element_left item a r taken z is same are iff =
+    let none : all_closed a taken ≡ [] = was_empty (all_closed a r) (all_closed a taken) are iff in
+    pending_left item a r taken z [] is same (are ∙ append-nil (all_closed a taken) ∙ none) ∙ row_item item taken.begun z
+    ∙ ap (λ (ls : List Level). item z ++ left item None taken.begun ls) (sym none)
 
-pub element_falls : (r : Rows) (z : ℕ) (rest : List Level) → r.pending ≡ Some z → r.closed ≡ rest ++ [] → (IsSome {T = Level} None ↔ (0 < length r.closed))
-    → extent (record { pending = None; begun = r.begun; closed = rest }) < extent r
-element_falls r z rest is are iff =
-    let same : length (rows_left (λ z. []) r) ≡ length (left (λ z. []) None r.begun rest) = ap length (element_left (λ z. []) r z rest is are iff) in
+pub element_falls : (a : Subranges) (r taken new : Rows) (z : ℕ) → r.pending ≡ Some z → taken.begun ≡ r.begun → all_closed a r ≡ all_closed a taken ++ [] → (IsSome {T = Level} None ↔ (0 < length (all_closed a r)))
+    → new.pending ≡ None → rows_left (λ z. []) a new ≡ left (λ z. []) None taken.begun (all_closed a taken) → extent a new < extent a r
+element_falls a r taken new z is same are iff none here =
+    let lengths : length (rows_left (λ z. []) a r) ≡ length (rows_left (λ z. []) a new) = ap length (element_left (λ z. []) a r taken z is same are iff ∙ sym here) in
     let one : bit r.pending ≡ 1 = ap bit is in
-    omega (arith, same, one)
+    let zero : bit new.pending ≡ 0 = ap bit none in
+    omega (arith, lengths, one, zero)
 
-pub element_sound : (r : Rows) (z : ℕ) (rest : List Level) → r.pending ≡ Some z → r.closed ≡ rest ++ [] → IsSound r.pending r.begun r.closed → IsSound None r.begun rest
-element_sound r z rest is are h =
-    empty_stacks r.begun rest z
-    (subst (λ (ls : List Level). IsSound (Some z) r.begun ls) (are ∙ append-nil rest) (subst (λ (p : Option ℕ). IsSound p r.begun r.closed) is h))
+pub element_sound : (a : Subranges) (r taken : Rows) (z : ℕ) → r.pending ≡ Some z → taken.begun ≡ r.begun → all_closed a r ≡ all_closed a taken ++ [] → AreSound a r → IsSound None taken.begun (all_closed a taken)
+element_sound a r taken z is same are h =
+    empty_stacks taken.begun (all_closed a taken) z (pending_sound a r taken z (all_closed a taken) is same (are ∙ append-nil (all_closed a taken)) h)
 
-pub end_left : (item : ℕ → List ℕ) (r : Rows) (rest : List OpenRow) → r.pending ≡ None → r.begun ≡ rest ++ [] → (IsSome {T = OpenRow} None ↔ (0 < length r.begun)) → rows_left item r ≡ []
-end_left item r rest is are iff =
-    begun_left item r [] is (are ∙ append-nil rest ∙ was_empty r.begun rest are iff) ∙ rows_end item r.closed
+pub end_left : (item : ℕ → List ℕ) (a : Subranges) (r : Rows) (rest : List OpenRow) → r.pending ≡ None → r.begun ≡ rest ++ [] → (IsSome {T = OpenRow} None ↔ (0 < length r.begun)) → rows_left item a r ≡ []
+end_left item a r rest is are iff =
+    begun_left item a r [] is (are ∙ append-nil rest ∙ was_empty r.begun rest are iff) ∙ rows_end item (all_closed a r)

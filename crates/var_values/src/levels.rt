@@ -39,6 +39,8 @@ pub struct Rows {
     pub pending: Option<u64>,
     /// Rows of which some elements are written, the innermost last.
     pub begun: Items<OpenRow>,
-    /// The levels inside of these, the outermost last.
+    /// How many subranges, the outermost first, are passed over or were begun.
+    pub opened: usize,
+    /// Those of them that are closed again, the outermost last.
     pub closed: Items<Level>,
 }

@@ -14,7 +14,6 @@ mod place;
 mod rows;
 mod scalars;
 mod source;
-mod subranges;
 mod suits;
 mod texts;
 mod values;

@@ -21,8 +21,7 @@ use dwarf_entries::names::ENCODING;
 use dwarf_entries::tags::BASE;
 use dwarf_entries::{LONGEST_CHAIN, Standing, natural};
 use dwarf_expr::FrameView;
-use dwarf_info::Units;
-use dwarf_types::{Behind, Class, class_of, resolved, type_of};
+use dwarf_types::{Behind, Class, TypeStanding, TypedUnits, class_of, resolved, type_of};
 use pm_text::Text;
 
 /// The encoding of a base type.
@@ -97,7 +96,7 @@ fn is_signed(encoding: Option<u64>) -> bool
 }
 
 /// Whether the type behind that of an enumeration is a signed base type.
-fn behind_is_signed<'r, 'a>(units: &'r Units<'a>, standing: &Standing<'r, 'a>) -> bool
+fn behind_is_signed<'r, 'k, 'a>(units: &TypedUnits<'r, 'k, 'a>, standing: &Standing<'r, 'a>) -> bool
     ensures { result ≡ scalars.behind_is_signed (behind units.now longest_chain
         (type_at units.now standing.now.entry.attributes)) }
 {
@@ -106,13 +105,16 @@ fn behind_is_signed<'r, 'a>(units: &'r Units<'a>, standing: &Standing<'r, 'a>) -
         Behind::Stands {
             standing,
             skipped: _,
-        } => standing.entry().tag == BASE && is_signed(encoding_of(&standing)),
+        } => standing.entry().tag == BASE && is_signed(encoding_of(standing.standing())),
         Behind::Nothing | Behind::TooDeep => false,
     }
 }
 
 /// Whether the numbers of a type are signed.
-pub fn type_is_signed<'r, 'a>(units: &'r Units<'a>, standing: &Standing<'r, 'a>) -> bool
+pub fn type_is_signed<'r, 'k, 'a>(
+    units: &TypedUnits<'r, 'k, 'a>,
+    standing: &Standing<'r, 'a>,
+) -> bool
     ensures { result ≡ scalars.type_is_signed (class_at standing.now) units.now standing.now }
 {
     match class_of(standing.entry().tag) {
@@ -173,9 +175,9 @@ fn push_based(
 }
 
 /// Appends the text of an enumeration with this word in so many bits.
-fn push_enumerated<'r, 'a>(
+fn push_enumerated<'r, 'k, 'a>(
     text: &mut Text,
-    units: &'r Units<'a>,
+    units: &TypedUnits<'r, 'k, 'a>,
     standing: &Standing<'r, 'a>,
     size: u64,
     count: u64,
@@ -188,13 +190,13 @@ fn push_enumerated<'r, 'a>(
         units.now standing.now size count word) }
 {
     let number = number_of(behind_is_signed(units, standing), count, word);
-    push_enumeration(text, units, standing, size, number)
+    push_enumeration(text, units.units(), standing, size, number)
 }
 
 /// Appends the text of a pointer, an enumeration or a base type with this word in so many bits.
-fn push_word<'r, 'a>(
+fn push_word<'r, 'k, 'a>(
     text: &mut Text,
-    units: &'r Units<'a>,
+    units: &TypedUnits<'r, 'k, 'a>,
     standing: &Standing<'r, 'a>,
     size: u64,
     count: u64,
@@ -217,11 +219,11 @@ fn push_word<'r, 'a>(
 /// Appends the text of a pointer, an enumeration or a base type of this size, or tells the mark in
 /// its place.
 #[tactic(auto, unfolding(crate::specs::Scalars::scalar_text))]
-pub fn push_scalar<'r, 'a>(
+pub fn push_scalar<'r, 'k, 'a>(
     text: &mut Text,
-    units: &'r Units<'a>,
+    units: &TypedUnits<'r, 'k, 'a>,
     view: &FrameView<'_>,
-    standing: &Standing<'r, 'a>,
+    standing: &TypeStanding<'r, 'k, 'a>,
     size: u64,
     place: &Place<'_>,
 ) -> Result<Option<Mark>, NoMemory>
@@ -234,7 +236,7 @@ pub fn push_scalar<'r, 'a>(
     let bits = bits_of(place, size);
     match word_in(view, place, bits) {
         Ok(word) => {
-            push_word(text, units, standing, size, bits.count, word)?;
+            push_word(text, units, standing.standing(), size, bits.count, word)?;
             Ok(None)
         }
         Err(mark) => Ok(Some(mark)),

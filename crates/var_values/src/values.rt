@@ -1,11 +1,11 @@
 //! Texts of values, by recursion on their types (DWARF 4 sections 5.4, 5.5 and 5.7).
 
-ghost use Rattle.std.specs.Prelude.{◌≡◌, ◌≢◌, ◌<◌, ◌^◌, ◌++◌, suc, true, drop, map, reverse, unwrap_or, Some, IsSome};
+ghost use Rattle.std.specs.Prelude.{◌≡◌, ◌≢◌, ◌<◌, ◌^◌, ◌++◌, suc, true, drop, map, unwrap_or, IsSome};
 ghost use Rattle.std.specs.Prelude.{OnOk, IfOk};
 ghost use Rattle.dwarf_entries.specs.Origins.{longest_chain};
 ghost use Rattle.dwarf_types.specs.Types.{class_at, type_of as type_at};
-ghost use Rattle.dwarf_types.specs.Counts.{counts};
 ghost use Rattle.dwarf_types.specs.Sizes as sizes;
+ghost use Rattle.dwarf_types.specs.calls.Subranges.{size_behind};
 ghost use Rattle.dwarf_types.specs.declared.behind.Typed.TheVariants as typeds;
 ghost use Rattle.dwarf_types.specs.declared.class.Class.TheVariants as classes;
 ghost use Rattle.var_values.specs.calls.Near.{IsNear};
@@ -19,71 +19,66 @@ ghost use Rattle.var_values.specs.calls.Told.{Tells};
 ghost use Rattle.var_values.specs.inner.Parts.{element_text, inner_size, separator};
 
 use crate::item::Item;
-use crate::levels::{Level, Rows};
+use crate::levels::Rows;
 use crate::members::{self, is_static};
 use crate::place::Place;
 use crate::scalars::push_scalar;
-use crate::subranges::levels_of;
 use crate::suits::suits;
 use crate::variants::items_of;
 use crate::{Mark, Source, constant_source};
 use causes::NoMemory;
-use dwarf_entries::{LONGEST_CHAIN, Standing, name_or_empty};
+use dwarf_entries::{LONGEST_CHAIN, name_or_empty};
 use dwarf_expr::FrameView;
-use dwarf_info::{Entry, Units};
-use dwarf_types::{Class, Typed, class_of, type_of, type_size};
-use pm_text::{Items, Text};
+use dwarf_info::Entry;
+use dwarf_types::{
+    ArrayRows, Class, TypeStanding, Typed, TypedUnits, class_of, type_of, type_size,
+};
+use pm_text::Text;
 use std::alloc::Global;
 
 /// What all values of a variable share.
 #[derive(Drop)]
-struct Context<'r, 'w, 'v, 'a> {
+struct Context<'t, 'r, 'k, 'w, 'v, 'a> {
     alloc: Global,
-    units: &'r Units<'a>,
+    units: &'t TypedUnits<'r, 'k, 'a>,
     view: &'w FrameView<'v>,
 }
 
 /// The class of a type.
-fn class_at(standing: &Standing<'_, '_>) -> Class
+fn class_at(standing: &TypeStanding<'_, '_, '_>) -> Class
     ensures { result ≡ class_at standing.now }
 {
     class_of(standing.entry().tag)
 }
 
 /// The type that a type is another name of, or that its elements have.
-fn inner_type<'r, 'a>(units: &'r Units<'a>, standing: &Standing<'r, 'a>) -> Typed<'r, 'a>
+fn inner_type<'r, 'k, 'a>(
+    units: &TypedUnits<'r, 'k, 'a>,
+    standing: &TypeStanding<'r, 'k, 'a>,
+) -> Typed<'r, 'k, 'a>
     ensures { result ≡ type_at units.now standing.now.entry.attributes }
 {
     type_of(units, &standing.entry().attributes)
 }
 
-/// The levels of an array without its first so many subranges, the outermost last.
-fn array_levels<'r, 'a>(
-    alloc: Global,
-    units: &'r Units<'a>,
-    standing: &Standing<'r, 'a>,
-    skipped: usize,
-) -> Result<Items<Level>, NoMemory>
-    requires class { class_at standing.now ≡ classes.Array }
-    requires size { IsSome (sizes.type_size units.now (typeds.At standing.now skipped)) }
-    ensures levels { IfOk result (λ levels. reverse levels ≡ odometer.levels
-        (drop skipped (counts standing.now)) (inner_size units.now standing.now)) }
-    ensures nested { IfOk result (λ levels. odometer.AreNested (reverse levels)) }
-    ensures fits { IfOk result (λ levels. odometer.whole (reverse levels) < 2 ^ 64) }
+/// The size of the innermost elements of an array, where it has one.
+fn inner_size<'r, 'k, 'a>(
+    units: &TypedUnits<'r, 'k, 'a>,
+    standing: &TypeStanding<'r, 'k, 'a>,
+) -> u64
+    ensures { result ≡ inner_size units.now standing.now }
 {
-    let size = type_size(units, &inner_type(units, standing)).unwrap_or(0);
-    let levels = levels_of(alloc, standing, skipped, size)?;
-    Ok(levels)
+    type_size(units, &inner_type(units, standing)).unwrap_or(0)
 }
 
 /// Appends the text of a value, or tells the mark in its place, where at most so many type entries
 /// follow each other.
 #[cycle(values)]
-fn push_within<'r, 'w, 'v, 'a>(
+fn push_within<'t, 'r, 'k, 'w, 'v, 'a>(
     text: &mut Text,
-    context: &Context<'r, 'w, 'v, 'a>,
+    context: &Context<'t, 'r, 'k, 'w, 'v, 'a>,
     most: u32,
-    typed: &Typed<'r, 'a>,
+    typed: &Typed<'r, 'k, 'a>,
     place: &Place<'_>,
 ) -> Result<Option<Mark>, NoMemory>
     requires near { IsNear most place.now.offset }
@@ -110,12 +105,12 @@ fn push_within<'r, 'w, 'v, 'a>(
 /// Appends the text of a value, or tells the mark in its place, where no other type stands behind
 /// the type.
 #[cycle(values)]
-fn push_passed<'r, 'w, 'v, 'a>(
+fn push_passed<'t, 'r, 'k, 'w, 'v, 'a>(
     text: &mut Text,
-    context: &Context<'r, 'w, 'v, 'a>,
+    context: &Context<'t, 'r, 'k, 'w, 'v, 'a>,
     most: u32,
-    typed: &Typed<'r, 'a>,
-    standing: &Standing<'r, 'a>,
+    typed: &Typed<'r, 'k, 'a>,
+    standing: &TypeStanding<'r, 'k, 'a>,
     skipped: usize,
     place: &Place<'_>,
 ) -> Result<Option<Mark>, NoMemory>
@@ -134,11 +129,11 @@ fn push_passed<'r, 'w, 'v, 'a>(
 
 /// Appends the text of a value of this size, or tells the mark in its place.
 #[cycle(values)]
-fn push_sized<'r, 'w, 'v, 'a>(
+fn push_sized<'t, 'r, 'k, 'w, 'v, 'a>(
     text: &mut Text,
-    context: &Context<'r, 'w, 'v, 'a>,
+    context: &Context<'t, 'r, 'k, 'w, 'v, 'a>,
     further: u32,
-    standing: &Standing<'r, 'a>,
+    standing: &TypeStanding<'r, 'k, 'a>,
     skipped: usize,
     size: u64,
     place: &Place<'_>,
@@ -151,7 +146,7 @@ fn push_sized<'r, 'w, 'v, 'a>(
         (value_text context.now.units.now context.now.view.now.memory further)
         standing.now skipped place.now) mark text.old text.new) }
 {
-    if !suits(standing, place, size) {
+    if !suits(standing.standing(), place, size) {
         return Ok(Some(Mark::UnsupportedType));
     }
     match place.source {
@@ -164,11 +159,11 @@ fn push_sized<'r, 'w, 'v, 'a>(
 
 /// Appends the text of a value that is somewhere, or tells the mark in its place.
 #[cycle(values)]
-fn push_content<'r, 'w, 'v, 'a>(
+fn push_content<'t, 'r, 'k, 'w, 'v, 'a>(
     text: &mut Text,
-    context: &Context<'r, 'w, 'v, 'a>,
+    context: &Context<'t, 'r, 'k, 'w, 'v, 'a>,
     further: u32,
-    standing: &Standing<'r, 'a>,
+    standing: &TypeStanding<'r, 'k, 'a>,
     skipped: usize,
     size: u64,
     place: &Place<'_>,
@@ -195,11 +190,11 @@ fn push_content<'r, 'w, 'v, 'a>(
 
 /// Appends the text of a value, or its mark.
 #[cycle(values)]
-fn push_in_place<'r, 'w, 'v, 'a>(
+fn push_in_place<'t, 'r, 'k, 'w, 'v, 'a>(
     text: &mut Text,
-    context: &Context<'r, 'w, 'v, 'a>,
+    context: &Context<'t, 'r, 'k, 'w, 'v, 'a>,
     most: u32,
-    typed: &Typed<'r, 'a>,
+    typed: &Typed<'r, 'k, 'a>,
     place: &Place<'_>,
 ) -> Result<(), NoMemory>
     requires near { IsNear most place.now.offset }
@@ -214,9 +209,9 @@ fn push_in_place<'r, 'w, 'v, 'a>(
 
 /// Appends the value of a member that is part of its structure, or its mark.
 #[cycle(values)]
-fn push_part_value<'r, 'w, 'v, 'a>(
+fn push_part_value<'t, 'r, 'k, 'w, 'v, 'a>(
     text: &mut Text,
-    context: &Context<'r, 'w, 'v, 'a>,
+    context: &Context<'t, 'r, 'k, 'w, 'v, 'a>,
     further: u32,
     entry: &'r Entry<'a>,
     place: &Place<'_>,
@@ -241,9 +236,9 @@ fn push_part_value<'r, 'w, 'v, 'a>(
 
 /// Appends the value of a member, or its mark.
 #[cycle(values)]
-fn push_member_value<'r, 'w, 'v, 'a>(
+fn push_member_value<'t, 'r, 'k, 'w, 'v, 'a>(
     text: &mut Text,
-    context: &Context<'r, 'w, 'v, 'a>,
+    context: &Context<'t, 'r, 'k, 'w, 'v, 'a>,
     further: u32,
     entry: &'r Entry<'a>,
     place: &Place<'_>,
@@ -268,9 +263,9 @@ fn push_member_value<'r, 'w, 'v, 'a>(
 
 /// Appends a member: its name and its value.
 #[cycle(values)]
-fn push_member<'r, 'w, 'v, 'a>(
+fn push_member<'t, 'r, 'k, 'w, 'v, 'a>(
     text: &mut Text,
-    context: &Context<'r, 'w, 'v, 'a>,
+    context: &Context<'t, 'r, 'k, 'w, 'v, 'a>,
     further: u32,
     entry: &'r Entry<'a>,
     place: &Place<'_>,
@@ -280,16 +275,16 @@ fn push_member<'r, 'w, 'v, 'a>(
         (value_text context.now.units.now context.now.view.now.memory further)
         place.now entry.now) }
 {
-    text.push_plain(name_or_empty(context.units, &entry.attributes))?;
+    text.push_plain(name_or_empty(context.units.units(), &entry.attributes))?;
     text.push_str(" = ")?;
     push_member_value(text, context, further, entry, place)
 }
 
 /// Appends a member, or the mark in the place of a variant part.
 #[cycle(values)]
-fn push_item<'r, 'w, 'v, 'a>(
+fn push_item<'t, 'r, 'k, 'w, 'v, 'a>(
     text: &mut Text,
-    context: &Context<'r, 'w, 'v, 'a>,
+    context: &Context<'t, 'r, 'k, 'w, 'v, 'a>,
     further: u32,
     item: &Item<'r, 'a>,
     place: &Place<'_>,
@@ -318,11 +313,11 @@ fn push_separator(text: &mut Text, is_first: bool) -> Result<(), NoMemory>
 
 /// Appends the members of a structure.
 #[cycle(values)]
-fn push_members<'r, 'w, 'v, 'a>(
+fn push_members<'t, 'r, 'k, 'w, 'v, 'a>(
     text: &mut Text,
-    context: &Context<'r, 'w, 'v, 'a>,
+    context: &Context<'t, 'r, 'k, 'w, 'v, 'a>,
     further: u32,
-    standing: &Standing<'r, 'a>,
+    standing: &TypeStanding<'r, 'k, 'a>,
     place: &Place<'_>,
 ) -> Result<(), NoMemory>
     requires near { IsNear (suc further) place.now.offset }
@@ -332,7 +327,13 @@ fn push_members<'r, 'w, 'v, 'a>(
         (the_items context.now.units.now context.now.view.now.memory place.now longest_chain
         standing.now))) }
 {
-    let items = items_of(context.alloc, context.units, context.view, standing, place)?;
+    let items = items_of(
+        context.alloc,
+        context.units,
+        context.view,
+        standing.standing(),
+        place,
+    )?;
     text.push_str("{")?;
     let entries = items.as_slice();
     let mut is_first = true;
@@ -344,26 +345,28 @@ fn push_members<'r, 'w, 'v, 'a>(
     text.push_str("}")
 }
 
-/// Appends the rows of an array of these levels, the outermost last.
+/// Appends the rows of an array without its first so many subranges.
 #[cycle(values)]
-fn push_rows<'r, 'w, 'v, 'a>(
+fn push_rows<'t, 'r, 'k, 'w, 'v, 'a>(
     text: &mut Text,
-    context: &Context<'r, 'w, 'v, 'a>,
+    context: &Context<'t, 'r, 'k, 'w, 'v, 'a>,
     further: u32,
-    element: &Typed<'r, 'a>,
+    element: &Typed<'r, 'k, 'a>,
     place: &Place<'_>,
-    levels: Items<Level>,
+    array: &ArrayRows,
+    skipped: usize,
 ) -> Result<(), NoMemory>
     requires near { IsNear (suc further) place.now.offset }
-    requires nested { odometer.AreNested (reverse levels) }
-    requires fits { odometer.whole (reverse levels) < 2 ^ 64 }
+    requires nested { odometer.AreNested (odometer.levels_behind array.now skipped) }
+    requires fits { odometer.whole (odometer.levels_behind array.now skipped) < 2 ^ 64 }
     ensures { OnOk result (text.new ≡ text.old ++ odometer.rows_text
         (element_text context.now.units.now
-        context.now.view.now.memory further element.now place.now) (reverse levels) 0) }
+        context.now.view.now.memory further element.now place.now)
+        (odometer.levels_behind array.now skipped) 0) }
 {
-    let mut rows = Rows::new(context.alloc, levels);
+    let mut rows = Rows::new(context.alloc, skipped);
     'elements: loop {
-        let Some(at) = rows.next(text)? else {
+        let Some(at) = rows.next(text, array)? else {
             return Ok(());
         };
         let there = Place {
@@ -375,14 +378,40 @@ fn push_rows<'r, 'w, 'v, 'a>(
     }
 }
 
-/// Appends the text of an array without its first so many subranges, or tells the mark in its
-/// place.
+/// Appends the text of an array whose subranges are known, without its first so many, or tells the
+/// mark in its place.
 #[cycle(values)]
-fn push_array<'r, 'w, 'v, 'a>(
+fn push_known<'t, 'r, 'k, 'w, 'v, 'a>(
     text: &mut Text,
-    context: &Context<'r, 'w, 'v, 'a>,
+    context: &Context<'t, 'r, 'k, 'w, 'v, 'a>,
     further: u32,
-    standing: &Standing<'r, 'a>,
+    element: &Typed<'r, 'k, 'a>,
+    place: &Place<'_>,
+    array: &ArrayRows,
+    skipped: usize,
+) -> Result<Option<Mark>, NoMemory>
+    requires near { IsNear (suc further) place.now.offset }
+    requires size { IsSome (size_behind array.now skipped) }
+    ensures { IfOk result (λ mark. Tells (values.array_text (value_text context.now.units.now
+        context.now.view.now.memory further element.now) (drop skipped array.now.counts)
+        array.now.element place.now) mark text.old text.new) }
+{
+    let count = array.len();
+    if count <= skipped {
+        return push_within(text, context, further, element, place);
+    }
+    push_rows(text, context, further, element, place, array, skipped)?;
+    Ok(None)
+}
+
+/// Appends the text of an array without its first so many subranges, or tells the mark in its
+/// place. Its subranges are read where they are not known yet.
+#[cycle(values)]
+fn push_array<'t, 'r, 'k, 'w, 'v, 'a>(
+    text: &mut Text,
+    context: &Context<'t, 'r, 'k, 'w, 'v, 'a>,
+    further: u32,
+    standing: &TypeStanding<'r, 'k, 'a>,
     skipped: usize,
     place: &Place<'_>,
 ) -> Result<Option<Mark>, NoMemory>
@@ -395,23 +424,23 @@ fn push_array<'r, 'w, 'v, 'a>(
         (value_text context.now.units.now context.now.view.now.memory further)
         standing.now skipped 0 place.now) mark text.old text.new) }
 {
-    let levels = array_levels(context.alloc, context.units, standing, skipped)?;
     let element = inner_type(context.units, standing);
-    if levels.is_empty() {
-        return push_within(text, context, further, &element, place);
+    let size = inner_size(context.units, standing);
+    if let Some(array) = standing.rows_of(size) {
+        return push_known(text, context, further, &element, place, array, skipped);
     }
-    push_rows(text, context, further, &element, place, levels)?;
-    Ok(None)
+    let array = ArrayRows::of(context.alloc, standing.standing(), size)?;
+    push_known(text, context, further, &element, place, &array, skipped)
 }
 
 /// Appends the text of a value of a type at a place, or appends nothing and tells the mark in its
 /// place.
-pub fn push_value<'r, 'a>(
+pub fn push_value<'r, 'k, 'a>(
     alloc: Global,
     text: &mut Text,
-    units: &'r Units<'a>,
+    units: &TypedUnits<'r, 'k, 'a>,
     view: &FrameView<'_>,
-    typed: &Typed<'r, 'a>,
+    typed: &Typed<'r, 'k, 'a>,
     place: &Place<'_>,
 ) -> Result<Option<Mark>, NoMemory>
     requires near { IsNear 16 place.now.offset }

@@ -32,8 +32,8 @@ use dwarf_entries::{
     LONGEST_CHAIN, Standing, attribute, block, is_child, number, reference, standing_at,
 };
 use dwarf_expr::FrameView;
-use dwarf_info::{Attributes, Entry, Units};
-use dwarf_types::{Behind, Class, class_of, resolved, type_of, type_size};
+use dwarf_info::{Attributes, Entry};
+use dwarf_types::{Behind, Class, TypedUnits, class_of, resolved, type_of, type_size};
 use pm_text::Items;
 use std::alloc::Global;
 
@@ -49,8 +49,8 @@ const VARIANT_PART: u64 = 0x33;
 
 /// A structure that stands somewhere.
 #[derive(Drop)]
-struct Structure<'r, 'w, 'v, 'p, 's, 'a> {
-    units: &'r Units<'a>,
+struct Structure<'t, 'r, 'k, 'w, 'v, 'p, 's, 'a> {
+    units: &'t TypedUnits<'r, 'k, 'a>,
     view: &'w FrameView<'v>,
     place: &'p Place<'s>,
 }
@@ -67,8 +67,8 @@ fn is_discrete(class: Class) -> bool
 }
 
 /// The number that a word in so many bits is.
-fn number_in<'r, 'a>(
-    units: &'r Units<'a>,
+fn number_in<'r, 'k, 'a>(
+    units: &TypedUnits<'r, 'k, 'a>,
     standing: &Standing<'r, 'a>,
     size: u64,
     count: u64,
@@ -98,8 +98,8 @@ fn is_discriminant(standing: &Standing<'_, '_>, size: u64, place: &Place<'_>) ->
 }
 
 /// The discriminant of a type of this size at a place, or the mark in its place.
-fn sized_discriminant<'r, 'a>(
-    units: &'r Units<'a>,
+fn sized_discriminant<'r, 'k, 'a>(
+    units: &TypedUnits<'r, 'k, 'a>,
     view: &FrameView<'_>,
     standing: &Standing<'r, 'a>,
     size: u64,
@@ -122,7 +122,7 @@ fn sized_discriminant<'r, 'a>(
 
 /// The discriminant that a member at a place is, or the mark in its place.
 fn discriminant_at<'r, 'a>(
-    structure: &Structure<'r, '_, '_, '_, '_, 'a>,
+    structure: &Structure<'_, 'r, '_, '_, '_, '_, '_, 'a>,
     entry: &'r Entry<'a>,
     place: &Place<'_>,
 ) -> Result<Discriminant, Mark>
@@ -145,7 +145,13 @@ fn discriminant_at<'r, 'a>(
             standing,
             skipped: _,
         } => match size {
-            Some(size) => sized_discriminant(units, structure.view, &standing, size, place),
+            Some(size) => sized_discriminant(
+                units,
+                structure.view,
+                standing.standing(),
+                size,
+                place,
+            ),
             None => Err(Mark::UnsupportedType),
         },
     }
@@ -153,7 +159,7 @@ fn discriminant_at<'r, 'a>(
 
 /// The discriminant that a member is which is part of the structure, or the mark in its place.
 fn part_discriminant<'r, 'a>(
-    structure: &Structure<'r, '_, '_, '_, '_, 'a>,
+    structure: &Structure<'_, 'r, '_, '_, '_, '_, '_, 'a>,
     entry: &'r Entry<'a>,
 ) -> Result<Discriminant, Mark>
     requires near { IsNear 1 structure.now.place.now.offset }
@@ -183,7 +189,7 @@ fn part_discriminant<'r, 'a>(
 /// The discriminant that a member of the structure is, or the mark in its place.
 #[tactic(auto, unfolding(crate::specs::Variants::discriminant_of))]
 fn discriminant_of<'r, 'a>(
-    structure: &Structure<'r, '_, '_, '_, '_, 'a>,
+    structure: &Structure<'_, 'r, '_, '_, '_, '_, '_, 'a>,
     entry: &'r Entry<'a>,
 ) -> Result<Discriminant, Mark>
     requires near { IsNear 1 structure.now.place.now.offset }
@@ -301,7 +307,7 @@ fn variant_by<'r, 'a>(
 /// The variant of a part that is chosen, or why there is none.
 #[tactic(auto, unfolding(crate::specs::Variants::variant_of))]
 fn variant_of<'r, 'a>(
-    structure: &Structure<'r, '_, '_, '_, '_, 'a>,
+    structure: &Structure<'_, 'r, '_, '_, '_, '_, '_, 'a>,
     part: &Standing<'r, 'a>,
 ) -> Result<Standing<'r, 'a>, Mark>
     requires near { IsNear 1 structure.now.place.now.offset }
@@ -311,7 +317,7 @@ fn variant_of<'r, 'a>(
     let Some(at) = reference(&part.entry().attributes, DISCR) else {
         return default_variant(part);
     };
-    let Some(member) = standing_at(structure.units, at) else {
+    let Some(member) = standing_at(structure.units.units(), at) else {
         return default_variant(part);
     };
     match discriminant_of(structure, member.entry()) {
@@ -326,7 +332,7 @@ fn variant_of<'r, 'a>(
 #[cycle(variants)]
 fn push_child<'r, 'a>(
     items: &mut Items<Item<'r, 'a>>,
-    structure: &Structure<'r, '_, '_, '_, '_, 'a>,
+    structure: &Structure<'_, 'r, '_, '_, '_, '_, '_, 'a>,
     further: u32,
     depth: u32,
     child: Standing<'r, 'a>,
@@ -355,7 +361,7 @@ fn push_child<'r, 'a>(
 #[tactic(auto, using(crate::proofs::VariantLaws::no_items, crate::proofs::VariantLaws::one_pushed))]
 fn push_items<'r, 'a>(
     items: &mut Items<Item<'r, 'a>>,
-    structure: &Structure<'r, '_, '_, '_, '_, 'a>,
+    structure: &Structure<'_, 'r, '_, '_, '_, '_, '_, 'a>,
     most: u32,
     standing: &Standing<'r, 'a>,
 ) -> Result<(), NoMemory>
@@ -383,9 +389,9 @@ fn push_items<'r, 'a>(
 /// # Errors
 ///
 /// Want of memory.
-pub fn items_of<'r, 'a>(
+pub fn items_of<'r, 'k, 'a>(
     alloc: Global,
-    units: &'r Units<'a>,
+    units: &TypedUnits<'r, 'k, 'a>,
     view: &FrameView<'_>,
     standing: &Standing<'r, 'a>,
     place: &Place<'_>,

@@ -1,6 +1,8 @@
 -- What is left to write of the rows of an array, some of which are open. Offsets count from the start of the array.
-use Rattle.std.specs.Prelude.{ℕ, ◌+◌, ◌-◌, ◌*◌, ◌^◌, ◌<◌, ◌≤◌, nat_lt, if◌then◌else◌, min, List, [], ◌∷◌, ◌++◌, length, map, reverse, Option, Some, None, unwrap_or, codes}
+use Rattle.std.specs.Prelude.{ℕ, ◌+◌, ◌-◌, ◌*◌, ◌^◌, ◌<◌, ◌≤◌, nat_lt, if◌then◌else◌, min, List, [], ◌∷◌, ◌++◌, length, map, drop, reverse, Option, Some, None, unwrap_or, codes}
 use Rattle.std.specs.List.{flat_map, range_with_len}
+use Rattle.dwarf_types.specs.Products.{array_size}
+use Rattle.dwarf_types.specs.calls.Subranges.{Subranges}
 use Rattle.var_values.specs.Values.{braced, dots, shown_elements, row_size}
 use Rattle.var_values.specs.declared.levels.Level.{Level}
 use Rattle.var_values.specs.declared.levels.OpenRow.{OpenRow}
@@ -15,6 +17,14 @@ level_of c step = record { count = unwrap_or c 0; step = step }
 abbrev pub levels : List (Option ℕ) → ℕ → List Level
 levels [] size = []
 levels (c ∷ cs) size = level_of c (row_size cs size) ∷ levels cs size
+
+-- the same by the sizes that are known
+abbrev pub sized_levels : List (Option ℕ) → Option ℕ → List Level
+sized_levels [] size = []
+sized_levels (c ∷ cs) size = level_of c (unwrap_or (array_size cs size) 0) ∷ sized_levels cs size
+
+abbrev pub levels_behind : Subranges → ℕ → List Level
+levels_behind a k = sized_levels (drop k a.counts) (Some a.element)
 
 abbrev pub shown : ℕ → ℕ
 shown n = min n shown_elements
@@ -80,30 +90,34 @@ IsSound pending rows closed = IsSoundAt pending (reverse rows) (reverse closed)
 
 -- ---- steps
 
-abbrev pub AreSound : Rows → Type 0
-AreSound r = IsSound r.pending r.begun r.closed
+-- all that are not open: those that were not begun yet, and behind them those that are closed again, the outermost last
+abbrev pub all_closed : Subranges → Rows → List Level
+all_closed a r = reverse (levels_behind a r.opened) ++ r.closed
 
-abbrev pub rows_left : (ℕ → List ℕ) → Rows → List ℕ
-rows_left item r = left item r.pending r.begun r.closed
+abbrev pub AreSound : Subranges → Rows → Type 0
+AreSound a r = IsSound r.pending r.begun (all_closed a r)
+
+abbrev pub rows_left : (ℕ → List ℕ) → Subranges → Rows → List ℕ
+rows_left item a r = left item r.pending r.begun (all_closed a r)
 
 -- what is left behind a step: where an element is to be written, it is left too
-abbrev pub step_left : (ℕ → List ℕ) → Step → Rows → List ℕ
-step_left item On r = rows_left item r
-step_left item (Element z) r = item z ++ rows_left item r
-step_left item End r = []
+abbrev pub step_left : (ℕ → List ℕ) → Subranges → Step → Rows → List ℕ
+step_left item a On r = rows_left item a r
+step_left item a (Element z) r = item z ++ rows_left item a r
+step_left item a End r = []
 
 abbrev pub bit : Option ℕ → ℕ
 bit None = 0
 bit (Some z) = 1
 
 -- how much is left to write, with elements without a text
-abbrev pub extent : Rows → ℕ
-extent r = 2 * length (rows_left (λ z. []) r) + bit r.pending
+abbrev pub extent : Subranges → Rows → ℕ
+extent a r = 2 * length (rows_left (λ z. []) a r) + bit r.pending
 
-abbrev pub Falls : Step → Rows → Rows → Type 0
-Falls On old new = extent new < extent old
-Falls (Element z) old new = extent new < extent old
-Falls End old new = Unit {0}
+abbrev pub Falls : Subranges → Step → Rows → Rows → Type 0
+Falls a On old new = extent a new < extent a old
+Falls a (Element z) old new = extent a new < extent a old
+Falls a End old new = Unit {0}
 
 abbrev pub step_of : Option ℕ → Step
 step_of None = End

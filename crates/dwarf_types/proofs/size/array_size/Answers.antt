@@ -3,7 +3,7 @@ use Rattle.std.specs.Prelude.{map, filter}
 use Rattle.dwarf_entries.specs.Standing.{is_child}
 use Rattle.dwarf_entries.specs.Tags.{tag_subrange}
 use Rattle.dwarf_types.specs.Counts.{subrange_count}
-use Rattle.dwarf_types.specs.Sizes.{times, array_size}
+use Rattle.dwarf_types.specs.Products.{times, array_size}
 use Rattle.dwarf_types.proofs.ArraySizes.{last_counts, no_counts}
 use Rattle.dwarf_types.proofs.size.array_size.Goals as goal
 

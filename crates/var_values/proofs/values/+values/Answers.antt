@@ -1,16 +1,17 @@
-use Rattle.std.proofs.Common.{◌≡◌, ◌<◌, ◌-◌, ◌++◌, None, Some, drop, subst, sym, ap, ◌∙◌, arith}
-use Rattle.std.specs.Prelude.{IfOk, reverse}
+use Rattle.std.proofs.Common.{◌≡◌, ◌<◌, ◌≤◌, ◌-◌, None, Some, length, subst, sym, ap, ◌∙◌, arith}
+use Rattle.std.specs.Prelude.{IfOk}
 use Rattle.dwarf_types.specs.Counts.{counts}
 use Rattle.dwarf_types.specs.Types.{class_at, type_of}
 use Rattle.dwarf_types.specs.declared.behind.Typed.{Typed}
 use Rattle.dwarf_types.specs.declared.class.Class.TheVariants as classes
 use Rattle.var_values.specs.declared.mark.Mark.TheVariants.{TypeTooDeep, UnsupportedType}
-use Rattle.var_values.specs.Values.{Text, array_text, item_text, value_text}
+use Rattle.var_values.specs.Values.{Text, item_text, value_text}
 use Rattle.var_values.specs.calls.Told.{Tells}
-use Rattle.var_values.specs.inner.Parts.{element_text, inner_size}
-use Rattle.var_values.specs.inner.Odometer.{rows_text}
+use Rattle.var_values.specs.inner.Parts.{inner_size}
 use Rattle.var_values.proofs.ValueLaws.{nothing_tells, deep_tells, passed_is, sized_is, mark_tells, item_joined}
-use Rattle.var_values.proofs.ArrayLaws.{rows_none, rows_tell}
+use Rattle.var_values.proofs.ArrayLaws.{rows_none, rows_tell, array_known, size_known}
+use Rattle.var_values.proofs.BehindLaws.{behind_nested, behind_fits}
+use Rattle.var_values.proofs.LevelLaws.{counted}
 use Rattle.var_values.proofs.ScalarLaws.{suits_scalar, suits_narrow}
 use Rattle.var_values.proofs.values.+values.Goals as goal
 
@@ -36,17 +37,48 @@ push_within-returns-in-Passed t c =
     ∙ ap (λ (x : Typed). value_text units m (c.args.most - 1) x p) (sym c.inner_type-next.ensures) in
     subst (λ (v : Text). IfOk c.push_within.result (λ mark. Tells v mark c.args.text.now c.push_within.new.text)) (sym is) c.push_within.ensures
 
-pub push_array-returns-then-is_empty : goal.push_array-returns-then-is_empty
-push_array-returns-then-is_empty t c =
+pub push_known-returns-then-count-skipped : goal.push_known-returns-then-count-skipped
+push_known-returns-then-count-skipped t c =
+    let value = value_text c.args.context.now.units.now c.args.context.now.view.now.memory c.args.further c.args.element.now in
+    let past : length c.args.array.now.counts ≤ c.args.skipped = omega (arith, c.len-count.ensures, c.if-count-skipped.true) in
+    subst (λ (v : Text). IfOk c.push_within.result (λ mark. Tells v mark c.args.text.now c.push_within.new.text)) (sym (rows_none value c.args.array.now c.args.skipped c.args.place.now past)) c.push_within.ensures
+
+pub push_known-push_rows-requires : goal.push_known-push_rows-requires
+push_known-push_rows-requires t c =
+    let nested = behind_nested c.args.array.now c.args.skipped c.requires.size in
+    let fits = behind_fits c.args.array.now c.args.skipped c.requires.size in
+    (omega arith, (c.requires.near, (nested, fits)))
+
+pub push_known-returns : goal.push_known-returns
+push_known-returns t c =
+    let value = value_text c.args.context.now.units.now c.args.context.now.view.now.memory c.args.further c.args.element.now in
+    let some : c.args.skipped < length c.args.array.now.counts = omega (arith, c.len-count.ensures, c.if-count-skipped.false) in
+    rows_tell value c.args.array.now c.args.skipped c.args.place.now c.args.text.now c.push_rows.new.text some c.requires.size c.in_ok-push_rows.ensures
+
+pub push_array-push_known-requires : goal.push_array-push_known-requires
+push_array-push_known-requires t c =
+    let units = c.args.context.now.units.now in
+    let s = c.args.standing.now in
+    let size = size_known c.in-Some.array.now (counts s) c.args.skipped (inner_size units s) c.in-Some.ensures.counts (c.in-Some.ensures.element ∙ c.inner_size-size.ensures) (counted units s c.args.skipped c.requires.class c.requires.size) in
+    (omega arith, (c.requires.near, size))
+
+pub push_array-returns-in-Some : goal.push_array-returns-in-Some
+push_array-returns-in-Some t c =
     let units = c.args.context.now.units.now in
     let m = c.args.context.now.view.now.memory in
     let s = c.args.standing.now in
     let p = c.args.place.now in
-    let value = value_text units m c.args.further (type_of units s.entry.attributes) in
-    let is : array_text value (drop c.args.skipped (counts s)) (inner_size units s) p ≡ value_text units m c.args.further c.inner_type-element.result p =
-    rows_none value (drop c.args.skipped (counts s)) (inner_size units s) p c.in_ok-levels.levels c.in_ok-levels.ensures.levels (sym c.is_empty.ensures ∙ c.if-is_empty.true)
-    ∙ ap (λ (x : Typed). value_text units m c.args.further x p) (sym c.inner_type-element.ensures) in
-    subst (λ (v : Text). IfOk c.push_within.result (λ mark. Tells v mark c.args.text.now c.push_within.new.text)) (sym is) c.push_within.ensures
+    subst (λ (v : Text). IfOk c.push_known.result (λ mark. Tells v mark c.args.text.now c.push_known.new.text))
+    (array_known (value_text units m c.args.further) c.inner_type-element.result (type_of units s.entry.attributes) c.in-Some.array.now (counts s) c.args.skipped (inner_size units s) p
+    c.inner_type-element.ensures c.in-Some.ensures.counts (c.in-Some.ensures.element ∙ c.inner_size-size.ensures))
+    c.push_known.ensures
+
+pub push_array-push_known-requires-2 : goal.push_array-push_known-requires-2
+push_array-push_known-requires-2 t c =
+    let units = c.args.context.now.units.now in
+    let s = c.args.standing.now in
+    let size = size_known c.in_ok-array.array (counts s) c.args.skipped (inner_size units s) (c.in_ok-array.ensures.counts ∙ ap counts c.standing.ensures) (c.in_ok-array.ensures.element ∙ c.inner_size-size.ensures) (counted units s c.args.skipped c.requires.class c.requires.size) in
+    (omega arith, (c.requires.near, size))
 
 pub push_array-returns : goal.push_array-returns
 push_array-returns t c =
@@ -54,10 +86,10 @@ push_array-returns t c =
     let m = c.args.context.now.view.now.memory in
     let s = c.args.standing.now in
     let p = c.args.place.now in
-    let value = value_text units m c.args.further (type_of units s.entry.attributes) in
-    let levels = c.in_ok-levels.levels in
-    rows_tell value (drop c.args.skipped (counts s)) (inner_size units s) p levels c.args.text.now c.push_rows.new.text c.in_ok-levels.ensures.levels (sym c.is_empty.ensures ∙ c.if-is_empty.false)
-    (c.in_ok-push_rows.ensures ∙ ap (λ (x : Typed). c.args.text.now ++ rows_text (element_text units m c.args.further x p) (reverse levels) 0) c.inner_type-element.ensures)
+    subst (λ (v : Text). IfOk c.push_known-2.result (λ mark. Tells v mark c.args.text.now c.push_known-2.new.text))
+    (array_known (value_text units m c.args.further) c.inner_type-element.result (type_of units s.entry.attributes) c.in_ok-array.array (counts s) c.args.skipped (inner_size units s) p
+    c.inner_type-element.ensures (c.in_ok-array.ensures.counts ∙ ap counts c.standing.ensures) (c.in_ok-array.ensures.element ∙ c.inner_size-size.ensures))
+    c.push_known-2.ensures
 
 pub push_content-push_scalar-requires-clause-scalar : goal.push_content-push_scalar-requires-clause-scalar
 push_content-push_scalar-requires-clause-scalar t c =

@@ -1,8 +1,8 @@
 use Rattle.std.proofs.Common.{◌≡◌, ◌+◌, ◌*◌, ◌++◌, drop}
-use Rattle.std.specs.Prelude.{map, reverse, codes}
+use Rattle.std.specs.Prelude.{map, codes}
 use Rattle.var_values.specs.Values.{value_text, item_text, braced}
 use Rattle.var_values.specs.inner.Parts.{joined, element_text}
-use Rattle.var_values.specs.inner.Odometer.{AreSound, rows_left, rows_text, extent}
+use Rattle.var_values.specs.inner.Odometer.{levels_behind, AreSound, rows_left, rows_text, extent}
 use Rattle.var_values.proofs.values.+values.Given as goal
 
 abbrev pub decreases-push_within : goal.decreases-push_within
@@ -24,7 +24,10 @@ abbrev pub decreases-push_item : goal.decreases-push_item
 decreases-push_item l = 16 * l.further + 6
 
 abbrev pub decreases-push_array : goal.decreases-push_array
-decreases-push_array l = 16 * l.further + 6
+decreases-push_array l = 16 * l.further + 7
+
+abbrev pub decreases-push_known : goal.decreases-push_known
+decreases-push_known l = 16 * l.further + 6
 
 abbrev pub decreases-push_rows : goal.decreases-push_rows
 decreases-push_rows l = 16 * l.further + 5
@@ -48,10 +51,10 @@ invariant-push_members-loop-item l =
 
 abbrev pub invariant-push_rows-elements : goal.invariant-push_rows-elements
 invariant-push_rows-elements l = record {
-  sound : AreSound l.rows;
-  rest : l.text ++ rows_left (element_text l.context.units.now l.context.view.now.memory l.further l.element l.place) l.rows
-      ≡ l.fn.text ++ rows_text (element_text l.context.units.now l.context.view.now.memory l.further l.element l.place) (reverse l.fn.levels) 0;
+  sound : AreSound l.array l.rows;
+  rest : l.text ++ rows_left (element_text l.context.units.now l.context.view.now.memory l.further l.element l.place) l.array l.rows
+      ≡ l.fn.text ++ rows_text (element_text l.context.units.now l.context.view.now.memory l.further l.element l.place) (levels_behind l.array l.skipped) 0;
 }
 
 abbrev pub decreases-push_rows-elements : goal.decreases-push_rows-elements
-decreases-push_rows-elements l = extent l.rows
+decreases-push_rows-elements l = extent l.array l.rows
