@@ -1,15 +1,15 @@
 //! The variables that are visible in a frame.
 
 ghost use Rattle.std.specs.Prelude.{◌≡◌, ◌++◌, flat_map, OnOk};
-ghost use Rattle.dwarf_scopes.specs.calls.Knowing.{AreFound};
+ghost use Rattle.var_eval.specs.calls.Sourced.{AreKnown};
 ghost use Rattle.debugger.specs.Variables as definitions;
 
 use causes::NoMemory;
 use dwarf_entries::{Standing, name_or_empty};
-use dwarf_scopes::{KnownLocations, no_locations, variables_at};
+use dwarf_scopes::variables_at;
 use pm_text::Text;
 use std::alloc::Global;
-use var_eval::{VariableFrame, push_variable};
+use var_eval::{KnownSources, VariableFrame, no_sources, push_variable};
 
 /// Adds the line of a variable.
 #[tactic(auto, unfolding(crate::specs::Variables::variable_line))]
@@ -18,17 +18,17 @@ fn push_line<'r, 'a>(
     alloc: Global,
     looks: &VariableFrame<'_, 'r, '_, '_, 'a>,
     variable: &Standing<'r, 'a>,
-    lists: &mut KnownLocations,
+    known: &mut KnownSources,
 ) -> Result<(), NoMemory>
-    requires right { AreFound looks.now.sections looks.now.address lists.old }
+    requires right { AreKnown looks.now known.old }
     ensures line { OnOk result (out.new
         ≡ out.old ++ definitions.variable_line looks.now variable.now) }
-    ensures right { AreFound looks.now.sections looks.now.address lists.new }
+    ensures right { AreKnown looks.now known.new }
 {
     let units = looks.units();
     out.push_plain(name_or_empty(units, &variable.entry().attributes))?;
     out.push_str(" = ")?;
-    push_variable(alloc, out, looks, variable, lists)?;
+    push_variable(alloc, out, looks, variable, known)?;
     out.push_str("\n")
 }
 
@@ -41,9 +41,9 @@ fn push_lines<'r, 'a>(
     ensures { OnOk result (out.new
         ≡ out.old ++ flat_map (definitions.variable_line looks.now) variables.now) }
 {
-    let mut lists = no_locations(alloc);
+    let mut known = no_sources(alloc);
     for variable in variables {
-        push_line(out, alloc, looks, variable, &mut lists)?;
+        push_line(out, alloc, looks, variable, &mut known)?;
     }
     Ok(())
 }

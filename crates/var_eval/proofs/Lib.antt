@@ -4,4 +4,4 @@ mod Places
 mod Rows
 mod Walks
 mod Told
-mod Globals
+mod SourceLaws

@@ -1,6 +1,6 @@
 -- Counts of arrays behind the first of them.
 use Rattle.std.proofs.Common.{◌≡◌, ℕ, zero, suc, ◌+◌, ◌-◌, ◌≤◌, Bool, true, false, List, [], ◌∷◌, length, drop, Option, Some, None, refl, sym, ap, ◌∙◌, add-one, length-drop, arith}
-use Rattle.std.specs.Prelude.{map, filter, find, nat_lt, if◌then◌else◌}
+use Rattle.std.specs.Prelude.{map, filter, find, slice_get, nat_lt, if◌then◌else◌}
 use Rattle.std.specs.Option.{is_some}
 use Rattle.std.proofs.lemmas.Bool.Decides.{nat_tests}
 use Rattle.std.proofs.lemmas.List.{drop-map, length-map}
@@ -9,6 +9,7 @@ use Rattle.dwarf_entries.specs.Tags.{tag_subrange}
 use Rattle.dwarf_entries.specs.Standing.{Standing, is_child, entries_inside}
 use Rattle.dwarf_types.specs.Counts.{subrange_count, one_at_least, counts}
 use Rattle.var_eval.specs.Steps.{is_past}
+use Rattle.var_eval.specs.inner.Counted.{is_past_known}
 
 -- ---- the first that passes a test
 
@@ -138,3 +139,12 @@ pub past_told : (s : Standing) (rest inside : List Entry) (depth k n : ℕ) (fou
     → past_by subrange_count found n ≡ is_past (drop k (counts s)) n
 past_told s rest inside depth k n found d i are is =
     ap (λ (e : Option Entry). past_by subrange_count e n) (is ∙ ap (λ (m : ℕ). find (is_child m tag_subrange) rest) d) ∙ sym (past_behind s rest k n (renamed s rest inside depth k d i are))
+
+-- ---- what is known
+
+pub past_known : (cs : List (Option ℕ)) (k n : ℕ) → is_past_known (slice_get cs k) n ≡ is_past (drop k cs) n
+past_known [] zero n = refl
+past_known [] (suc k) n = refl
+past_known (None ∷ cs) zero n = refl
+past_known (Some c ∷ cs) zero n = refl
+past_known (c ∷ cs) (suc k) n = past_known cs k n

@@ -7,6 +7,7 @@ ghost use Rattle.dwarf_types.specs.Counts.{counts};
 ghost use Rattle.dwarf_types.specs.Types.{type_of as the_type};
 ghost use Rattle.dwarf_types.specs.Sizes.{type_size as the_size};
 ghost use Rattle.var_eval.specs.Steps as steps;
+ghost use Rattle.var_eval.specs.inner.Counted.{is_past_known};
 ghost use Rattle.var_eval.specs.inner.Told.{Tells};
 
 use crate::dead_end::DeadEnd;
@@ -17,9 +18,10 @@ use crate::sourced_place::SourcedPlace;
 use dwarf_entries::tags::{POINTER, SUBRANGE};
 use dwarf_entries::{Standing, is_child};
 use dwarf_expr::{FrameView, PiecePlace};
-use dwarf_info::{Entry, Units};
+use dwarf_info::Entry;
 use dwarf_types::{
-    Class, Typed, class_of, has_subranges, subrange_count, subranges_behind, type_of, type_size,
+    Class, TypeStanding, Typed, TypedUnits, class_of, has_subranges, subrange_count,
+    subranges_behind, type_of, type_size,
 };
 use var_values::{Mark, Source};
 
@@ -61,13 +63,57 @@ fn has_rows(standing: &Standing<'_, '_>, skipped: usize) -> bool
     skipped < entries.len() && has_subranges(subranges_behind(entries, depth, skipped + 1), depth)
 }
 
+/// Whether an index is at or past a count, where that is known.
+fn is_past_count(count: Option<Option<u128>>, index: u32) -> bool
+    ensures { result ≡ is_past_known count index }
+{
+    match count {
+        Some(Some(count)) => u128::from(index) >= count,
+        Some(None) | None => false,
+    }
+}
+
+/// Whether an index is at or past the count of an array behind its first so many subranges, which
+/// are read only where they are not known yet.
+fn passes_end(standing: &TypeStanding<'_, '_, '_>, skipped: usize, index: u32) -> bool
+    ensures { result ≡ steps.is_past (drop skipped (counts standing.now)) index }
+{
+    match standing.rows() {
+        Some(rows) => is_past_count(rows.count(skipped), index),
+        None => is_past(standing.standing(), skipped, index),
+    }
+}
+
+/// Whether more than one is left behind the first so many.
+fn are_left(len: usize, skipped: usize) -> bool
+    ensures is { result ≡ nat_lt (skipped + 1) len }
+    ensures room { result ≡ true → skipped + 1 < 2 ^ 64 }
+{
+    skipped < len && len - skipped > 1
+}
+
+/// Whether an array has rows behind its first so many subranges and one more, which are read only
+/// where they are not known yet.
+fn holds_rows(standing: &TypeStanding<'_, '_, '_>, skipped: usize) -> bool
+    ensures is { result ≡ nat_lt (skipped + 1) (length (counts standing.now)) }
+    ensures room { result ≡ true → skipped + 1 < 2 ^ 64 }
+{
+    match standing.rows() {
+        Some(rows) => are_left(rows.len(), skipped),
+        None => has_rows(standing.standing(), skipped),
+    }
+}
+
 /// The type of the elements of an array behind its first so many subranges: rows of it, or the type
 /// that it has.
-fn element_type<'r, 'a>(units: &'r Units<'a>, met: Met<'r, 'a>) -> Typed<'r, 'a>
+fn element_type<'r, 'k, 'a>(
+    units: &TypedUnits<'r, 'k, 'a>,
+    met: Met<'r, 'k, 'a>,
+) -> Typed<'r, 'k, 'a>
     ensures { result ≡ steps.element_type units.now met.entry.standing met.entry.skipped }
 {
     let Met { standing, skipped } = met;
-    if has_rows(&standing, skipped) {
+    if holds_rows(&standing, skipped) {
         return Typed::At {
             standing,
             skipped: skipped + 1,
@@ -85,21 +131,21 @@ fn bytes_of(index: u32, size: u64) -> u128
 }
 
 /// Whether an element is behind the end of an array, or the array is behind that of another one.
-fn is_behind_end(past: bool, met: &Met<'_, '_>, index: u32) -> bool
+fn is_behind_end(past: bool, met: &Met<'_, '_, '_>, index: u32) -> bool
     ensures { result ≡ (past
         || steps.is_past (drop met.now.skipped (counts met.now.standing)) index) }
 {
-    past || is_past(&met.standing, met.skipped, index)
+    past || passes_end(&met.standing, met.skipped, index)
 }
 
 /// An element of an array that stands there.
-fn array_element<'r, 'a>(
-    units: &'r Units<'a>,
+fn array_element<'r, 'k, 'a>(
+    units: &TypedUnits<'r, 'k, 'a>,
     index: u32,
-    met: Met<'r, 'a>,
+    met: Met<'r, 'k, 'a>,
     spot: SourcedPlace,
     past: bool,
-) -> Result<Part<'r, 'a>, DeadEnd>
+) -> Result<Part<'r, 'k, 'a>, DeadEnd>
     ensures { Tells result (steps.element_at units.now index spot past met.entry
         (the_size units.now (steps.element_type units.now met.entry.standing met.entry.skipped))) }
 {
@@ -127,12 +173,12 @@ fn address_further(more: u128, source: Source) -> Source
 }
 
 /// An element behind what a pointer leads to that stands there.
-fn pointed_element<'r, 'a>(
-    units: &'r Units<'a>,
+fn pointed_element<'r, 'k, 'a>(
+    units: &TypedUnits<'r, 'k, 'a>,
     index: u32,
-    standing: &Standing<'r, 'a>,
+    standing: &TypeStanding<'r, 'k, 'a>,
     source: Source,
-) -> Result<Part<'r, 'a>, DeadEnd>
+) -> Result<Part<'r, 'k, 'a>, DeadEnd>
     ensures { Tells result (steps.pointed_element units.now index standing.now source
         (the_size units.now (the_type units.now standing.now.entry.attributes))) }
 {
@@ -148,12 +194,12 @@ fn pointed_element<'r, 'a>(
 
 /// An element of an array, or of those that a pointer leads to the first of.
 #[tactic(auto, using(crate::proofs::Stops::stopped), unfolding(crate::specs::Steps::element_step))]
-pub fn element_step<'r, 'a>(
-    units: &'r Units<'a>,
+pub fn element_step<'r, 'k, 'a>(
+    units: &TypedUnits<'r, 'k, 'a>,
     view: &FrameView<'_>,
     index: u32,
-    part: Part<'r, 'a>,
-) -> Result<Part<'r, 'a>, DeadEnd>
+    part: Part<'r, 'k, 'a>,
+) -> Result<Part<'r, 'k, 'a>, DeadEnd>
     ensures { Tells result (steps.element_step units.now view.now.memory index part.entry) }
 {
     let Part { typed, spot, past } = part;

@@ -9,6 +9,7 @@ use causes::NoMemory;
 use dwarf_expr::{Base, FrameView};
 use dwarf_info::{Sections5, Units};
 use dwarf_scopes::subprogram_at;
+use dwarf_types::{Arrays, TypedUnits};
 use std::alloc::Global;
 use std::marker::Model;
 
@@ -18,6 +19,8 @@ use std::marker::Model;
 pub struct VariableFrame<'s, 'u, 'w, 'v, 'a> {
     sections: &'s Sections5<'a>,
     units: &'u Units<'a>,
+    // Known once for all variables.
+    arrays: Arrays,
     address: u32,
     view: &'w FrameView<'v>,
     left: Option<u32>,
@@ -28,13 +31,15 @@ impl<'s, 'u, 'w, 'v, 'a> Model for VariableFrame<'s, 'u, 'w, 'v, 'a> {
     ghost use Rattle.std.specs.Prelude.{◌≡◌};
     ghost use Rattle.var_eval.specs.Frames.{Frame, frame_of};
     ghost use Rattle.var_eval.specs.Locations.{base_of};
+    ghost use Rattle.dwarf_types.specs.calls.Known.{AreKnown};
 
     ghost Value = { Frame };
 
     ghost view = { λ f. frame_of f.sections.now f.units.now f.address f.view.now f.left };
 
-    ghost invariant = { λ f. f.base
-        ≡ base_of (frame_of f.sections.now f.units.now f.address f.view.now f.left) };
+    ghost invariant = { λ f. (f.base
+        ≡ base_of (frame_of f.sections.now f.units.now f.address f.view.now f.left))
+        × AreKnown f.units.now f.arrays };
 }
 
 impl<'s, 'u, 'w, 'v, 'a> VariableFrame<'s, 'u, 'w, 'v, 'a> {
@@ -51,9 +56,11 @@ impl<'s, 'u, 'w, 'v, 'a> VariableFrame<'s, 'u, 'w, 'v, 'a> {
     {
         let subprogram = subprogram_at(alloc, sections, units.as_slice(), address)?;
         let base = base_in(alloc, sections, address, view, &subprogram)?;
+        let arrays = Arrays::of(alloc, units)?;
         Ok(VariableFrame {
             sections,
             units,
+            arrays,
             address,
             view,
             left,
@@ -71,6 +78,13 @@ impl<'s, 'u, 'w, 'v, 'a> VariableFrame<'s, 'u, 'w, 'v, 'a> {
         ensures { result.now ≡ self.now.units }
     {
         self.units
+    }
+
+    /// The units, with what is known of their types.
+    pub fn types<'f>(&'f self) -> TypedUnits<'u, 'f, 'a>
+        ensures { result ≡ self.now.units }
+    {
+        TypedUnits::new(self.units, &self.arrays)
     }
 
     /// Of the code where it stands.

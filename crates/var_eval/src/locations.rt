@@ -54,7 +54,7 @@ fn spanned<'a>(section: &'a [u8], span: Span) -> &'a [u8]
 }
 
 /// The section that holds the location lists of a unit.
-fn lists_of<'a>(sections: &Sections5<'a>, unit: &Unit<'a>) -> &'a [u8]
+pub fn lists_of<'a>(sections: &Sections5<'a>, unit: &Unit<'a>) -> &'a [u8]
     ensures { result.now ≡ locations.lists_of sections.now unit.now }
 {
     if unit.version == 5 {

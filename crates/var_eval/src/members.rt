@@ -13,7 +13,7 @@ use crate::sourced_place::SourcedPlace;
 use dwarf_entries::{Standing, name_or_empty};
 use dwarf_expr::FrameView;
 use dwarf_info::{Entry, Units};
-use dwarf_types::{Class, class_of, type_of};
+use dwarf_types::{Class, TypedUnits, class_of, type_of};
 use std::alloc::Global;
 use var_values::{Bits, Item, Mark, constant_source, is_static, items_of, part_at};
 
@@ -54,12 +54,12 @@ fn offset_of(spot: &SourcedPlace, member: &Entry<'_>) -> Option<(i128, Option<Bi
 }
 
 /// A member that is part of a structure that stands there.
-fn placed_part<'r, 'a>(
-    units: &'r Units<'a>,
+fn placed_part<'r, 'k, 'a>(
+    units: &TypedUnits<'r, 'k, 'a>,
     member: &'r Entry<'a>,
     spot: SourcedPlace,
     past: bool,
-) -> Result<Part<'r, 'a>, DeadEnd>
+) -> Result<Part<'r, 'k, 'a>, DeadEnd>
     ensures { Tells result (ok_or (option_map (steps.part_of units.now past member.now)
         (the_place spot member.now)) UnsupportedType) }
 {
@@ -76,12 +76,12 @@ fn placed_part<'r, 'a>(
 
 /// A member of a structure that stands there; a static one is no more than its constant.
 #[tactic(auto, unfolding(crate::specs::Steps::at_member))]
-fn member_part<'r, 'a>(
-    units: &'r Units<'a>,
+fn member_part<'r, 'k, 'a>(
+    units: &TypedUnits<'r, 'k, 'a>,
     member: &'r Entry<'a>,
     spot: SourcedPlace,
     past: bool,
-) -> Result<Part<'r, 'a>, DeadEnd>
+) -> Result<Part<'r, 'k, 'a>, DeadEnd>
     ensures { Tells result
         (ok_or (steps.at_member units.now spot past member.now) UnsupportedType) }
 {
@@ -97,12 +97,12 @@ fn member_part<'r, 'a>(
 }
 
 /// A member of a structure that stands there, which is among what stands in it.
-fn item_part<'r, 'a>(
-    units: &'r Units<'a>,
+fn item_part<'r, 'k, 'a>(
+    units: &TypedUnits<'r, 'k, 'a>,
     item: &Item<'r, 'a>,
     spot: SourcedPlace,
     past: bool,
-) -> Result<Part<'r, 'a>, DeadEnd>
+) -> Result<Part<'r, 'k, 'a>, DeadEnd>
     ensures { Tells result (ok_or (steps.at_item units.now spot past item.now) UnsupportedType) }
 {
     match item {
@@ -112,22 +112,22 @@ fn item_part<'r, 'a>(
 }
 
 /// The member of a name of a structure, class or union that stands there.
-fn member_of<'r, 'a>(
+fn member_of<'r, 'k, 'a>(
     alloc: Global,
-    units: &'r Units<'a>,
+    units: &TypedUnits<'r, 'k, 'a>,
     view: &FrameView<'_>,
     name: &[u8],
     standing: &Standing<'r, 'a>,
     spot: SourcedPlace,
     past: bool,
-) -> Result<Part<'r, 'a>, DeadEnd>
+) -> Result<Part<'r, 'k, 'a>, DeadEnd>
     ensures { Tells result
         (steps.member_of units.now view.now.memory name.now standing.now spot past) }
 {
     let Ok(items) = items_of(alloc, units, view, standing, &spot.place()) else {
         return Err(DeadEnd::NoMemory);
     };
-    match member_named(units, name, items.as_slice()) {
+    match member_named(units.units(), name, items.as_slice()) {
         Some(item) => item_part(units, item, spot, past),
         None => Err(DeadEnd::Marked(Mark::UnsupportedType)),
     }
@@ -135,19 +135,27 @@ fn member_of<'r, 'a>(
 
 /// The member of a name, of a structure, class or union.
 #[tactic(auto, using(crate::proofs::Stops::stopped), unfolding(crate::specs::Steps::member_step))]
-pub fn member_step<'r, 'a>(
+pub fn member_step<'r, 'k, 'a>(
     alloc: Global,
-    units: &'r Units<'a>,
+    units: &TypedUnits<'r, 'k, 'a>,
     view: &FrameView<'_>,
     name: &[u8],
-    part: Part<'r, 'a>,
-) -> Result<Part<'r, 'a>, DeadEnd>
+    part: Part<'r, 'k, 'a>,
+) -> Result<Part<'r, 'k, 'a>, DeadEnd>
     ensures { Tells result (steps.member_step units.now view.now.memory name.now part.entry) }
 {
     let Part { typed, spot, past } = part;
     let met = meet(units, typed, spot.place().bits)?;
     match class_of(met.standing.entry().tag) {
-        Class::Members => member_of(alloc, units, view, name, &met.standing, spot, past),
+        Class::Members => member_of(
+            alloc,
+            units,
+            view,
+            name,
+            met.standing.standing(),
+            spot,
+            past,
+        ),
         _ => Err(DeadEnd::Marked(Mark::UnsupportedType)),
     }
 }

@@ -11,14 +11,14 @@ use var_values::{Place, Source};
 
 /// A part of a variable, or of what it points to.
 #[derive(Drop)]
-pub struct Part<'r, 'a> {
-    pub(crate) typed: Typed<'r, 'a>,
+pub struct Part<'r, 'k, 'a> {
+    pub(crate) typed: Typed<'r, 'k, 'a>,
     pub(crate) spot: SourcedPlace,
     /// It stands behind the end of an array whose count is known.
     pub(crate) past: bool,
 }
 
-impl<'r, 'a> Model for Part<'r, 'a> {
+impl<'r, 'k, 'a> Model for Part<'r, 'k, 'a> {
     ghost use Rattle.var_eval.specs.Steps.{Part};
 
     ghost Value = { Part };
@@ -26,9 +26,9 @@ impl<'r, 'a> Model for Part<'r, 'a> {
     ghost view = { λ p. record { type = p.typed; place = p.spot; past = p.past } };
 }
 
-impl<'r, 'a> Part<'r, 'a> {
+impl<'r, 'k, 'a> Part<'r, 'k, 'a> {
     /// The whole of what comes from a source.
-    pub fn whole(typed: Typed<'r, 'a>, source: Source) -> Self
+    pub fn whole(typed: Typed<'r, 'k, 'a>, source: Source) -> Self
         ensures { result ≡ steps.whole typed.entry source }
     {
         Part {
@@ -39,7 +39,7 @@ impl<'r, 'a> Part<'r, 'a> {
     }
 
     /// Its type.
-    pub fn typed(&self) -> &Typed<'r, 'a>
+    pub fn typed(&self) -> &Typed<'r, 'k, 'a>
         ensures { result.now ≡ self.now.type }
     {
         &self.typed

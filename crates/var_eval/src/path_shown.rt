@@ -9,9 +9,8 @@ use crate::{Part, Shown, VariableFrame, chosen, source_of, walk};
 use causes::NoMemory;
 use dwarf_entries::Standing;
 use dwarf_expr::FrameView;
-use dwarf_info::Units;
 use dwarf_scopes::no_locations;
-use dwarf_types::type_of;
+use dwarf_types::{TypedUnits, type_of};
 use pm_text::Text;
 use std::alloc::Global;
 use var_path::{Path, Step};
@@ -34,11 +33,11 @@ fn shown_of(past: bool, mark: Option<Mark>, text: Text) -> Shown
 }
 
 /// What is shown of a part.
-fn shown_part<'r, 'a>(
+fn shown_part<'r, 'k, 'a>(
     alloc: Global,
-    units: &'r Units<'a>,
+    units: &TypedUnits<'r, 'k, 'a>,
     view: &FrameView<'_>,
-    part: &Part<'r, 'a>,
+    part: &Part<'r, 'k, 'a>,
 ) -> Result<Shown, NoMemory>
     ensures { IfOk result (λ shown.
         shown ≡ shown_as (definitions.part_text units.now view.now.memory part.now)) }
@@ -59,13 +58,13 @@ fn shown_behind<'r, 'a>(
     ensures { IfOk result (λ shown.
         shown ≡ shown_as (definitions.steps_text frame.now steps.now variable.now)) }
 {
-    let units = frame.units();
+    let units = frame.types();
     let mut lists = no_locations(alloc);
     let source = source_of(alloc, frame, variable, &mut lists)?;
-    let typed = type_of(units, &variable.entry().attributes);
-    let reached = walk(alloc, units, frame.view(), steps, typed, source)?;
+    let typed = type_of(&units, &variable.entry().attributes);
+    let reached = walk(alloc, &units, frame.view(), steps, typed, source)?;
     match reached {
-        Ok(part) => shown_part(alloc, units, frame.view(), &part),
+        Ok(part) => shown_part(alloc, &units, frame.view(), &part),
         Err(mark) => Ok(Shown::Marked(mark)),
     }
 }

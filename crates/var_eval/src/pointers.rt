@@ -10,8 +10,7 @@ use crate::meeting::meet;
 use crate::part::Part;
 use crate::sourced_place::SourcedPlace;
 use dwarf_expr::{FrameView, PiecePlace};
-use dwarf_info::Units;
-use dwarf_types::{Class, class_of, type_of};
+use dwarf_types::{Class, TypedUnits, class_of, type_of};
 use var_values::{Mark, Source, number_at};
 
 /// Where an address leads that was read.
@@ -43,11 +42,11 @@ pub fn pointed(view: &FrameView<'_>, spot: &SourcedPlace, past: bool) -> Source
 
 /// What a pointer or a reference leads to.
 #[tactic(auto, using(crate::proofs::Stops::stopped), unfolding(crate::specs::Steps::pointer_step))]
-pub fn pointer_step<'r, 'a>(
-    units: &'r Units<'a>,
+pub fn pointer_step<'r, 'k, 'a>(
+    units: &TypedUnits<'r, 'k, 'a>,
     view: &FrameView<'_>,
-    part: Part<'r, 'a>,
-) -> Result<Part<'r, 'a>, DeadEnd>
+    part: Part<'r, 'k, 'a>,
+) -> Result<Part<'r, 'k, 'a>, DeadEnd>
     ensures { Tells result (steps.pointer_step units.now view.now.memory part.entry) }
 {
     let Part { typed, spot, past } = part;

@@ -11,21 +11,20 @@ use crate::part::Part;
 use crate::pointers::pointer_step;
 use causes::NoMemory;
 use dwarf_expr::FrameView;
-use dwarf_info::Units;
-use dwarf_types::Typed;
+use dwarf_types::{Typed, TypedUnits};
 use std::alloc::Global;
 use var_path::Step;
 use var_values::{Mark, Source};
 
 /// One step.
 #[tactic(auto, using(crate::proofs::Stops::stopped), unfolding(crate::specs::Steps::step))]
-fn take_step<'r, 'a>(
+fn take_step<'r, 'k, 'a>(
     alloc: Global,
-    units: &'r Units<'a>,
+    units: &TypedUnits<'r, 'k, 'a>,
     view: &FrameView<'_>,
-    part: Part<'r, 'a>,
+    part: Part<'r, 'k, 'a>,
     step: &Step<'_>,
-) -> Result<Part<'r, 'a>, DeadEnd>
+) -> Result<Part<'r, 'k, 'a>, DeadEnd>
     ensures { Tells result (definitions.step units.now view.now.memory part.entry step.now) }
 {
     match step {
@@ -39,13 +38,13 @@ fn take_step<'r, 'a>(
     }
 }
 
-fn take_steps<'r, 'a>(
+fn take_steps<'r, 'k, 'a>(
     alloc: Global,
-    units: &'r Units<'a>,
+    units: &TypedUnits<'r, 'k, 'a>,
     view: &FrameView<'_>,
     steps: &[Step<'_>],
-    whole: Part<'r, 'a>,
-) -> Result<Part<'r, 'a>, DeadEnd>
+    whole: Part<'r, 'k, 'a>,
+) -> Result<Part<'r, 'k, 'a>, DeadEnd>
     ensures { Tells result (definitions.walk units.now view.now.memory steps.now whole.entry) }
 {
     let mut part = whole;
@@ -62,14 +61,14 @@ fn take_steps<'r, 'a>(
 ///
 /// Want of memory also where an offset in a source passes 2^118 bytes, which takes millions of
 /// steps.
-pub fn walk<'r, 'a>(
+pub fn walk<'r, 'k, 'a>(
     alloc: Global,
-    units: &'r Units<'a>,
+    units: &TypedUnits<'r, 'k, 'a>,
     view: &FrameView<'_>,
     steps: &[Step<'_>],
-    typed: Typed<'r, 'a>,
+    typed: Typed<'r, 'k, 'a>,
     source: Source,
-) -> Result<Result<Part<'r, 'a>, Mark>, NoMemory>
+) -> Result<Result<Part<'r, 'k, 'a>, Mark>, NoMemory>
     ensures { IfOk result (λ part. part
         ≡ definitions.walk units.now view.now.memory steps.now
         (definitions.whole typed.entry source)) }

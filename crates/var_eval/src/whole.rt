@@ -1,45 +1,95 @@
 //! Whole variables.
 
 ghost use Rattle.std.specs.Prelude.{◌≡◌, ◌++◌, IfOk, OnOk};
-ghost use Rattle.dwarf_scopes.specs.calls.Knowing.{AreFound};
 ghost use Rattle.var_values.specs.Values.{in_place};
 ghost use Rattle.var_values.specs.calls.Told.{Tells};
+ghost use Rattle.var_eval.specs.Locations.{variable_source};
 ghost use Rattle.var_eval.specs.Shown as shown;
+ghost use Rattle.var_eval.specs.calls.Sourced.{sourced_at, AreKnown};
 
 use crate::frame::VariableFrame;
 use crate::locations::source_of;
 use crate::shown::Shown;
+use crate::sources::{
+    ExpressionPlace, KnownSource, KnownSources, keep_source, known_source, long_place, no_sources,
+};
 use causes::NoMemory;
 use dwarf_entries::{Standing, standing_at};
-use dwarf_scopes::{KnownLocations, no_locations};
 use dwarf_types::type_of;
 use pm_text::Text;
 use std::alloc::Global;
-use var_values::{Mark, Place, push_value};
+use var_values::{Mark, Place, Source, push_value};
 
-/// Appends the text of a whole variable, or tells the mark in its place.
+/// Appends the text of a whole variable that comes from there, or tells the mark in its place.
 #[tactic(auto, using(var_values::proofs::NearLaws::near_start), unfolding(crate::specs::Shown::variable_text))]
+fn push_from<'r, 'a>(
+    alloc: Global,
+    text: &mut Text,
+    frame: &VariableFrame<'_, 'r, '_, '_, 'a>,
+    variable: &Standing<'r, 'a>,
+    source: &Source,
+) -> Result<Option<Mark>, NoMemory>
+    requires { source.now ≡ variable_source frame.now variable.now }
+    ensures { IfOk result (λ mark. Tells (shown.variable_text frame.now variable.now) mark text.old
+        text.new) }
+{
+    let units = frame.types();
+    let typed = type_of(&units, &variable.entry().attributes);
+    let place = Place {
+        source,
+        offset: 0,
+        bits: None,
+    };
+    push_value(alloc, text, &units, frame.view(), &typed, &place)
+}
+
+/// The same of a variable whose source the long expression at a place gives.
+fn push_long<'r, 'a>(
+    alloc: Global,
+    text: &mut Text,
+    frame: &VariableFrame<'_, 'r, '_, '_, 'a>,
+    variable: &Standing<'r, 'a>,
+    place: ExpressionPlace,
+    known: &mut KnownSources,
+) -> Result<Option<Mark>, NoMemory>
+    requires right { AreKnown frame.now known.old }
+    requires is { variable_source frame.now variable.now ≡ sourced_at frame.now place }
+    ensures told { IfOk result (λ mark. Tells (shown.variable_text frame.now variable.now) mark
+        text.old text.new) }
+    ensures right { AreKnown frame.now known.new }
+{
+    if let Some(source) = known_source(&known.sources, place) {
+        return push_from(alloc, text, frame, variable, source);
+    }
+    let source = source_of(alloc, frame, variable, &mut known.lists)?;
+    let mark = push_from(alloc, text, frame, variable, &source)?;
+    keep_source(
+        frame,
+        variable,
+        &mut known.sources,
+        KnownSource { place, source },
+    )?;
+    Ok(mark)
+}
+
+/// The same of each variable.
 fn push_whole<'r, 'a>(
     alloc: Global,
     text: &mut Text,
     frame: &VariableFrame<'_, 'r, '_, '_, 'a>,
     variable: &Standing<'r, 'a>,
-    lists: &mut KnownLocations,
+    known: &mut KnownSources,
 ) -> Result<Option<Mark>, NoMemory>
-    requires right { AreFound frame.now.sections frame.now.address lists.old }
+    requires right { AreKnown frame.now known.old }
     ensures told { IfOk result (λ mark. Tells (shown.variable_text frame.now variable.now) mark
         text.old text.new) }
-    ensures right { AreFound frame.now.sections frame.now.address lists.new }
+    ensures right { AreKnown frame.now known.new }
 {
-    let source = source_of(alloc, frame, variable, lists)?;
-    let units = frame.units();
-    let typed = type_of(units, &variable.entry().attributes);
-    let place = Place {
-        source: &source,
-        offset: 0,
-        bits: None,
-    };
-    push_value(alloc, text, units, frame.view(), &typed, &place)
+    if let Some(place) = long_place(frame, variable, &mut known.lists)? {
+        return push_long(alloc, text, frame, variable, place, known);
+    }
+    let source = source_of(alloc, frame, variable, &mut known.lists)?;
+    push_from(alloc, text, frame, variable, &source)
 }
 
 /// Appends what is shown of a variable: its text, or the mark in its place.
@@ -48,14 +98,14 @@ pub fn push_variable<'r, 'a>(
     text: &mut Text,
     frame: &VariableFrame<'_, 'r, '_, '_, 'a>,
     variable: &Standing<'r, 'a>,
-    lists: &mut KnownLocations,
+    known: &mut KnownSources,
 ) -> Result<(), NoMemory>
-    requires right { AreFound frame.now.sections frame.now.address lists.old }
+    requires right { AreKnown frame.now known.old }
     ensures text { OnOk result (text.new
         ≡ text.old ++ in_place (shown.variable_text frame.now variable.now)) }
-    ensures right { AreFound frame.now.sections frame.now.address lists.new }
+    ensures right { AreKnown frame.now known.new }
 {
-    match push_whole(alloc, text, frame, variable, lists)? {
+    match push_whole(alloc, text, frame, variable, known)? {
         Some(mark) => text.push_str(mark.text()),
         None => Ok(()),
     }
@@ -70,8 +120,8 @@ fn shown_whole<'r, 'a>(
     ensures { IfOk result (λ s. s ≡ shown.shown_as (shown.variable_text frame.now variable.now)) }
 {
     let mut text = Text::new(alloc);
-    let mut lists = no_locations(alloc);
-    match push_whole(alloc, &mut text, frame, variable, &mut lists)? {
+    let mut known = no_sources(alloc);
+    match push_whole(alloc, &mut text, frame, variable, &mut known)? {
         Some(mark) => Ok(Shown::Marked(mark)),
         None => Ok(Shown::Text(text)),
     }
