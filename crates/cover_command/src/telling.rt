@@ -13,6 +13,7 @@ use crate::merging::{NamedLine, merge};
 use causes::NoMemory;
 use commands::push_number;
 use debug_frames::Information;
+use dwarf_line::Lines;
 use line_coverage::Coverage;
 use machine_steps::Tally;
 use pm_text::Text;
@@ -53,6 +54,17 @@ fn push_sums(out: &mut Text, unplaced: u64, steps: u64) -> Result<(), NoMemory>
     out.push_str("\n")
 }
 
+/// References to line programs, in their order.
+fn borrowed<'r, 'a>(alloc: Global, lines: &'r [Lines<'a>]) -> Result<Vec<&'r Lines<'a>>, NoMemory>
+    ensures { IfOk result (λ tables. map (λ l. l.now) tables.items ≡ lines.now) }
+{
+    let mut tables = Vec::new(alloc);
+    for program in lines {
+        tables.push(program)?;
+    }
+    Ok(tables)
+}
+
 /// Adds the lines that tell where the steps fell that were counted of runs of a module, by what
 /// its bytes say of its source.
 pub(crate) fn push_covered(
@@ -66,7 +78,8 @@ pub(crate) fn push_covered(
         → length seen < 2 ^ 64 → CoverText out.old (map (source_line information.now source.now) seen)
         out.new) }
 {
-    let tables = information.programs().lines(alloc)?;
+    let lines = information.programs().lines(alloc)?;
+    let tables = borrowed(alloc, lines.as_slice())?;
     let coverage = Coverage::of(alloc, &tables, source, tally)?;
     let counts = merge(alloc, &tables, coverage.lines())?;
     push_counts(out, &counts)?;

@@ -1,6 +1,12 @@
 pub mod Kept
 pub mod Parts
 pub mod PlacingLaws
+pub mod HullLaws
+pub mod PathLaws
+pub mod SequenceLaws
+pub mod StoreLaws
+pub mod AddLaws
+pub mod TellLaws
 pub mod UnitRowLaws
 pub mod StandingLaws
 pub mod LineLaws

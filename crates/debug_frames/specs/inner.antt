@@ -1,3 +1,6 @@
 pub mod Resolving
 pub mod Standings
 pub mod Placing
+pub mod Hulls
+pub mod Paths
+pub mod Stores

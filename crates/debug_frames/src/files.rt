@@ -2,11 +2,20 @@
 
 ghost use Rattle.std.specs.Prelude.{◌≡◌, ◌++◌, OnOk, IfOk, option_copied, codes};
 ghost use Rattle.debug_frames.specs.Files as definitions;
+ghost use Rattle.debug_frames.specs.inner.Paths as paths;
 
 use causes::NoMemory;
 use dwarf_line::{LineFile, Lines};
 use pm_text::Text;
 use std::alloc::Global;
+use wasm_bytes::Run;
+
+/// The name of a source file, beside the directory that is written before it.
+#[derive(Drop)]
+pub struct Path<'a> {
+    pub directory: Option<Run<'a>>,
+    pub name: Run<'a>,
+}
 
 fn file_of<'r, 'a>(lines: &'r Lines<'a>, number: u64) -> Option<&'r LineFile<'a>>
     ensures { option_copied result ≡ definitions.numbered lines.now.first lines.now.files number }
@@ -17,9 +26,8 @@ fn file_of<'r, 'a>(lines: &'r Lines<'a>, number: u64) -> Option<&'r LineFile<'a>
     lines.files.get((number - u64::from(lines.first)) as usize)
 }
 
-fn directory_of<'r, 'a>(lines: &'r Lines<'a>, number: u64) -> Option<&'r [u8]>
-    ensures { option_copied result
-        ≡ definitions.numbered lines.now.first lines.now.directories number }
+fn directory_of<'a>(lines: &Lines<'a>, number: u64) -> Option<Run<'a>>
+    ensures { result ≡ definitions.numbered lines.now.first lines.now.directories number }
 {
     if number < u64::from(lines.first) {
         return None;
@@ -28,7 +36,7 @@ fn directory_of<'r, 'a>(lines: &'r Lines<'a>, number: u64) -> Option<&'r [u8]>
         .directories
         .get((number - u64::from(lines.first)) as usize)
     {
-        Some(directory) => Some(directory.as_slice()),
+        Some(directory) => Some(Run::new(directory.as_slice())),
         None => None,
     }
 }
@@ -41,8 +49,8 @@ fn is_whole(file: &LineFile<'_>) -> bool
 }
 
 /// The directory that is written before a name.
-fn directory_before<'r, 'a>(lines: &'r Lines<'a>, file: &LineFile<'a>) -> Option<&'r [u8]>
-    ensures { option_copied result ≡ definitions.directory_before lines.now file.now }
+fn directory_before<'a>(lines: &Lines<'a>, file: &LineFile<'_>) -> Option<Run<'a>>
+    ensures { result ≡ definitions.directory_before lines.now file.now }
 {
     if is_whole(file) {
         None
@@ -62,20 +70,48 @@ fn joined(alloc: Global, directory: &[u8], name: &[u8]) -> Result<Vec<u8>, NoMem
     Ok(path)
 }
 
-fn push_path(
-    out: &mut Text,
-    alloc: Global,
-    lines: &Lines<'_>,
-    file: &LineFile<'_>,
-) -> Result<(), NoMemory>
-    ensures { OnOk result (out.new ≡ out.old ++ definitions.path_text lines.now file.now) }
+fn path_of<'a>(lines: &Lines<'a>, file: &LineFile<'a>) -> Path<'a>
+    ensures { result ≡ paths.path_of lines.now file.now }
 {
-    match directory_before(lines, file) {
+    Path {
+        directory: directory_before(lines, file),
+        name: Run::new(file.name.as_slice()),
+    }
+}
+
+/// The name of the file of a number.
+pub(crate) fn path_in<'a>(lines: &Lines<'a>, number: u64) -> Option<Path<'a>>
+    ensures { result ≡ paths.path_in lines.now number }
+{
+    match file_of(lines, number) {
+        Some(file) => Some(path_of(lines, file)),
+        None => None,
+    }
+}
+
+fn push_path(out: &mut Text, alloc: Global, path: &Path<'_>) -> Result<(), NoMemory>
+    ensures { OnOk result (out.new ≡ out.old ++ paths.shown path.now) }
+{
+    match &path.directory {
         Some(directory) => {
-            let path = joined(alloc, directory, file.name.as_slice())?;
+            let path = joined(alloc, directory.as_slice(), path.name.as_slice())?;
             out.push_plain(path.as_slice())
         }
-        None => out.push_plain(file.name.as_slice()),
+        None => out.push_plain(path.name.as_slice()),
+    }
+}
+
+/// Adds the name of a file, or `?` where there is none.
+pub(crate) fn push_path_or_mark(
+    out: &mut Text,
+    alloc: Global,
+    path: &Option<Path<'_>>,
+) -> Result<(), NoMemory>
+    ensures { OnOk result (out.new ≡ out.old ++ paths.shown_or_mark path.now) }
+{
+    match path {
+        Some(path) => push_path(out, alloc, path),
+        None => out.push_str("?"),
     }
 }
 
@@ -93,7 +129,7 @@ pub fn push_file(
         return out.push_str("?");
     };
     match file_of(lines, number) {
-        Some(file) => push_path(out, alloc, lines, file),
+        Some(file) => push_path(out, alloc, &path_of(lines, file)),
         None => out.push_str("?"),
     }
 }

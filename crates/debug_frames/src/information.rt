@@ -3,10 +3,14 @@
 ghost use Rattle.std.specs.Prelude.{◌≡◌, ◌≤◌, length, IfOk, Some};
 ghost use Rattle.dwarf_info.specs.Sections.{IsReadable5, greatest_section};
 ghost use Rattle.debug_frames.specs.Information as definitions;
+ghost use Rattle.debug_frames.specs.Frames.{file_in};
 ghost use Rattle.debug_frames.specs.Programs.{program_there};
 ghost use Rattle.debug_frames.specs.calls.Kept.{programs_of, IsKept};
+ghost use Rattle.debug_frames.specs.inner.Paths.{shown_or_mark};
+ghost use Rattle.debug_frames.specs.inner.Stores.{is_read};
 
-use crate::programs::{Program, Programs};
+use crate::files::Path;
+use crate::programs::Programs;
 use crate::sections::sections_of;
 use causes::NoMemory;
 use dwarf_info::{Sections5, Units};
@@ -23,7 +27,7 @@ pub struct Information<'a> {
     sections: Sections5<'a>,
     // The units of versions 4 and 5.
     units: Units<'a>,
-    // The line programs that the units name, each read once.
+    // The line programs that the units name.
     programs: Programs<'a>,
     names: Names,
 }
@@ -61,7 +65,7 @@ fn said<'a>(
 
 impl<'a> Information<'a> {
     /// What the bytes of a module say, which was decoded from them: each unit and each line program
-    /// is read once.
+    /// is read once here.
     #[tactic(auto, unfolding(crate::specs::Information::information))]
     pub fn of(alloc: Global, bytes: &'a [u8], module_: &Module) -> Result<Self, NoMemory>
         requires { length bytes.now ≤ greatest_section }
@@ -99,11 +103,26 @@ impl<'a> Information<'a> {
         &self.names
     }
 
-    /// What stands at an offset of `.debug_line` that a unit names.
-    pub(crate) fn program(&self, at: u32) -> &Program<'a>
+    /// What stands at an offset of `.debug_line` that a unit names can be read.
+    pub(crate) fn is_read(&self, at: u32) -> bool
         requires { IsKept self.now.sections self.now.units (Some at) }
-        ensures { result.now ≡ program_there self.now.sections at }
+        ensures { result ≡ is_read (program_there self.now.sections at) }
     {
-        self.programs().get(at).unwrap()
+        self.programs().is_read(at).unwrap()
+    }
+
+    /// The name of the file of a number in what stands at an offset that a unit names.
+    pub(crate) fn path(
+        &self,
+        alloc: Global,
+        at: u32,
+        number: u64,
+    ) -> Result<Option<Path<'a>>, NoMemory>
+        requires { IsKept self.now.sections self.now.units (Some at) }
+        ensures { IfOk result (λ path. shown_or_mark path
+            ≡ file_in (Some (program_there self.now.sections at)) (Some number)) }
+    {
+        let path = self.programs().path(alloc, at, number)?;
+        Ok(path)
     }
 }

@@ -1,13 +1,17 @@
 //! The places in source that stand in the lines of frames.
 
-ghost use Rattle.std.specs.Prelude.{◌≡◌, ◌++◌, OnOk, IfSome, option_copied};
+ghost use Rattle.std.specs.Prelude.{◌≡◌, ◌++◌, Some, OnOk, IfOk, IfSome, option_copied, option_map};
 ghost use Rattle.debug_frames.specs.Frames as definitions;
+ghost use Rattle.debug_frames.specs.Programs.{program_there};
+ghost use Rattle.debug_frames.specs.calls.Kept.{IsKept};
+ghost use Rattle.debug_frames.specs.inner.Paths.{place_text, shown_or_mark};
 ghost use Rattle.debug_frames.specs.inner.Resolving.{resolved_at};
 ghost use Rattle.debug_frames.specs.inner.Standings.{IsOfKept};
 
-use crate::files::push_file;
+use crate::files::{Path, push_path_or_mark};
 use crate::information::Information;
-use crate::programs::{Located, Program, named_by};
+use crate::programs::named_by;
+use crate::rows::RowPlace;
 use crate::symbolizer::Resolved;
 use causes::NoMemory;
 use dwarf_entries::{Standing, natural, number};
@@ -21,28 +25,52 @@ const CALL_LINE: u64 = 0x59;
 
 /// Adds the place of a row.
 #[tactic(auto, unfolding(crate::specs::Frames::site))]
-fn push_row(out: &mut Text, alloc: Global, located: &Located<'_, '_>) -> Result<(), NoMemory>
-    ensures { OnOk result (out.new ≡ out.old ++ definitions.row_site (Some located.now)) }
+fn push_row(out: &mut Text, alloc: Global, place: &RowPlace<'_>) -> Result<(), NoMemory>
+    ensures { OnOk result (out.new ≡ out.old ++ place_text (Some place.now)) }
 {
     out.push_str(" at ")?;
-    push_file(out, alloc, located.lines, Some(u64::from(located.row.file)))?;
+    push_path_or_mark(out, alloc, &place.path)?;
     out.push_str(":")?;
-    out.push_decimal(i128::from(located.row.line))
+    out.push_decimal(i128::from(place.line))
 }
 
-/// The line program of the unit of an entry.
-fn program_of_unit<'r, 'a>(
-    information: &'r Information<'a>,
-    standing: &Standing<'_, 'a>,
-) -> Option<&'r Program<'a>>
-    requires { IsOfKept information.now standing.now }
-    ensures { option_copied result
-        ≡ definitions.program_of_unit information.now.sections standing.now }
+/// The name of the file of a number in the line program at an offset that a unit names, if any.
+fn path_of_program<'a>(
+    alloc: Global,
+    information: &Information<'a>,
+    at: Option<u32>,
+    number: u64,
+) -> Result<Option<Path<'a>>, NoMemory>
+    requires { IsKept information.now.sections information.now.units at }
+    ensures { IfOk result (λ path. shown_or_mark path ≡ definitions.file_in
+        (option_map (program_there information.now.sections) at) (Some number)) }
 {
-    match named_by(standing.unit().entries.as_slice()) {
-        Some(at) => Some(information.program(at)),
-        None => None,
+    match at {
+        Some(at) => {
+            let path = information.path(alloc, at, number)?;
+            Ok(path)
+        }
+        None => Ok(None),
     }
+}
+
+/// The name of the file of a number in the line program of the unit of an entry, if any.
+fn call_path<'a>(
+    alloc: Global,
+    information: &Information<'a>,
+    standing: &Standing<'_, '_>,
+    number: Option<u64>,
+) -> Result<Option<Path<'a>>, NoMemory>
+    requires { IsOfKept information.now standing.now }
+    ensures { IfOk result (λ path. shown_or_mark path ≡ definitions.file_in
+        (definitions.program_of_unit information.now.sections standing.now) number) }
+{
+    let Some(number) = number else {
+        return Ok(None);
+    };
+    let at = named_by(standing.unit().entries.as_slice());
+    let path = path_of_program(alloc, information, at, number)?;
+    Ok(path)
 }
 
 /// Adds the file from which an inlined subroutine is called.
@@ -57,11 +85,8 @@ fn push_call_file(
         ≡ out.old ++ definitions.call_file_text information.now standing.now) }
 {
     let number = natural(&standing.entry().attributes, CALL_FILE);
-    match program_of_unit(information, standing) {
-        Some(Program::Read(lines)) => push_file(out, alloc, lines, number),
-        Some(Program::Unreadable) => out.push_str("?"),
-        None => out.push_str("?"),
-    }
+    let path = call_path(alloc, information, standing, number)?;
+    push_path_or_mark(out, alloc, &path)
 }
 
 /// Adds the place from which an inlined subroutine is called, where it says a line.
@@ -87,10 +112,10 @@ fn push_call(
 
 /// Adds the place of the row of an address, where there is one.
 fn push_place(out: &mut Text, alloc: Global, resolved: &Resolved<'_, '_>) -> Result<(), NoMemory>
-    ensures { OnOk result (out.new ≡ out.old ++ definitions.row_site resolved.now.located) }
+    ensures { OnOk result (out.new ≡ out.old ++ place_text resolved.now.place) }
 {
-    match &resolved.located {
-        Some(located) => push_row(out, alloc, located),
+    match &resolved.place {
+        Some(place) => push_row(out, alloc, place),
         None => Ok(()),
     }
 }

@@ -1,22 +1,25 @@
 //! The line programs that units name (DWARF 4 and 5 section 6.2).
 
-ghost use Rattle.std.specs.Prelude.{◌≡◌, ◌==◌, ◌++◌, map, flat_map, find, IfOk, OnOk, slice_get, option_copied};
-ghost use Rattle.std.specs.Prelude.{option_map};
+ghost use Rattle.std.specs.Prelude.{◌≡◌, ◌==◌, ◌++◌, drop, find, fold, IfOk, OnOk, option_copied, option_map};
 ghost use Rattle.std.specs.Ordering.{nat_cmp};
 ghost use Rattle.std.specs.BTreeMap.{get};
 ghost use Rattle.dwarf_abbrev.specs.calls.Places.{IsPlaced};
-ghost use Rattle.dwarf_scopes.specs.calls.Numbered.{ranges_from, with_number};
+ghost use Rattle.dwarf_scopes.specs.calls.Numbered.{ranges_from};
 ghost use Rattle.dwarf_scopes.specs.calls.Steps.{Answer};
 ghost use Rattle.debug_frames.specs.Programs as definitions;
 ghost use Rattle.debug_frames.specs.calls.Kept as kept;
-ghost use Rattle.debug_frames.specs.inner.Placing.{held_by, held_in};
+ghost use Rattle.debug_frames.specs.inner.Paths.{row_place, path_at};
+ghost use Rattle.debug_frames.specs.inner.Stores.{AreStored, seen, claims_in, places_among, is_read};
 
+use crate::files::Path;
+use crate::rows::RowPlace;
+use crate::stored::{Stored, push_claims, store, stored_path, stored_place};
 use causes::NoMemory;
 use dwarf_bytes::ReadFault;
 use dwarf_entries::names::STMT_LIST;
 use dwarf_entries::offset;
 use dwarf_info::{Entry, PreparedSections, Sections5, UnitAnswer};
-use dwarf_line::{Lines, Row, Sequence};
+use dwarf_line::Lines;
 use dwarf_scopes::{Range, Steps};
 use dwarf5_line::read_prepared_lines5;
 use pm_text::Items;
@@ -31,29 +34,15 @@ pub enum Program<'a> {
     Unreadable,
 }
 
-/// A row, with the program whose files it counts.
-#[derive(Drop)]
-pub struct Located<'r, 'a> {
-    pub lines: &'r Lines<'a>,
-    pub row: Row,
-}
-
-impl<'r, 'a> Model for Located<'r, 'a> {
-    ghost use Rattle.dwarf_line.specs.Place.{Located};
-
-    ghost Value = { Located };
-
-    ghost view = { λ x. record { lines = x.lines.now; row = x.row } };
-}
-
 /// The line programs that units name, by their offsets in `.debug_line`. Contracts see them as
 /// pairs, each where it is named first.
 #[derive(Drop)]
 pub struct Programs<'a> {
-    programs: Items<(u32, Program<'a>)>,
+    sections: PreparedSections<'a>,
+    programs: Items<(u32, Stored<'a>)>,
     // Where the program of each offset stands.
     places: BTreeMap<u32, usize>,
-    // Which of them holds an address first.
+    // Which of them may hold an address first: none in front of it does.
     held: Steps,
 }
 
@@ -65,18 +54,19 @@ impl<'a> Model for Programs<'a> {
     ghost use Rattle.dwarf_scopes.specs.calls.Numbered.{ranges_from};
     ghost use Rattle.dwarf_scopes.specs.calls.Steps.{Answer};
     ghost use Rattle.debug_frames.specs.declared.programs.Program.{Program};
-    ghost use Rattle.debug_frames.specs.inner.Placing.{held_in};
+    ghost use Rattle.debug_frames.specs.inner.Stores.{AreStored, seen, claims_in};
 
     ghost Value = { List (ℕ × Program) };
 
-    ghost view = { λ p. p.programs };
+    ghost view = { λ p. seen p.sections p.programs };
 
     ghost invariant = { λ p. IsPlaced (λ x. x.0) p.programs (get nat_cmp p.places)
-        × Answer (ranges_from held_in 0 p.programs) p.held };
+        × (Answer (ranges_from claims_in 0 p.programs) p.held
+        × AreStored p.sections p.programs) };
 }
 
 /// What stands at an offset of `.debug_line`.
-fn program_there<'a>(
+pub(crate) fn program_there<'a>(
     alloc: Global,
     sections: &PreparedSections<'a>,
     at: u32,
@@ -110,65 +100,20 @@ pub fn named(answer: &UnitAnswer<'_>) -> Option<u32>
     }
 }
 
-fn row_in<'r, 'a>(lines: &'r Lines<'a>, address: u32) -> Option<Located<'r, 'a>>
-    ensures { result ≡ definitions.located lines.now address }
-{
-    match lines.place(address) {
-        Some(row) => Some(Located { lines, row }),
-        None => None,
-    }
-}
-
-fn located_in<'r, 'a>(program: &'r Program<'a>, address: u32) -> Option<Located<'r, 'a>>
-    ensures { result ≡ definitions.located_in program.now address }
-{
-    match program {
-        Program::Read(lines) => row_in(lines, address),
-        Program::Unreadable => None,
-    }
-}
-
-/// Adds the addresses that a sequence holds, with the number of its program.
-fn push_held(sequence: &Sequence, number: usize, ranges: &mut Vec<Range>) -> Result<(), NoMemory>
-    ensures { OnOk result (ranges.new.items
-        ≡ ranges.old.items ++ with_number number (held_by sequence.now)) }
-{
-    if let Some((first, end)) = sequence.held() {
-        ranges.push(Range {
-            first,
-            end: i128::from(end),
-            index: number,
-        })?;
-    }
-    Ok(())
-}
-
-fn push_ranges(lines: &Lines<'_>, number: usize, ranges: &mut Vec<Range>) -> Result<(), NoMemory>
-    ensures { OnOk result (ranges.new.items
-        ≡ ranges.old.items ++ with_number number (flat_map held_by lines.now.sequences)) }
-{
-    for sequence in lines.sequences.as_slice() {
-        push_held(sequence, number, ranges)?;
-    }
-    Ok(())
-}
-
-/// The addresses that sequences of programs hold, with the numbers of the programs.
-fn ranges_of(alloc: Global, programs: &[(u32, Program<'_>)]) -> Result<Vec<Range>, NoMemory>
-    ensures { IfOk result (λ ranges. ranges.items ≡ ranges_from held_in 0 programs.now) }
+/// The addresses that programs may hold, with the numbers of the programs.
+fn ranges_of(alloc: Global, programs: &[(u32, Stored<'_>)]) -> Result<Vec<Range>, NoMemory>
+    ensures { IfOk result (λ ranges. ranges.items ≡ ranges_from claims_in 0 programs.now) }
 {
     let mut ranges = Vec::new(alloc);
-    'programs: for (number, (_, program)) in programs.iter().enumerate() {
-        if let Program::Read(lines) = program {
-            push_ranges(lines, number, &mut ranges)?;
-        }
+    'programs: for (number, (_, stored)) in programs.iter().enumerate() {
+        push_claims(stored, number, &mut ranges)?;
     }
     Ok(ranges)
 }
 
-/// Which of these programs holds an address first.
-fn steps_of(alloc: Global, programs: &[(u32, Program<'_>)]) -> Result<Steps, NoMemory>
-    ensures { IfOk result (Answer (ranges_from held_in 0 programs.now)) }
+/// Which of these programs may hold an address first.
+fn steps_of(alloc: Global, programs: &[(u32, Stored<'_>)]) -> Result<Steps, NoMemory>
+    ensures { IfOk result (Answer (ranges_from claims_in 0 programs.now)) }
 {
     let ranges = ranges_of(alloc, programs)?;
     let steps = Steps::of(alloc, ranges.as_slice())?;
@@ -180,13 +125,16 @@ fn add<'a>(
     alloc: Global,
     sections: &PreparedSections<'a>,
     at: Option<u32>,
-    programs: &mut Items<(u32, Program<'a>)>,
+    room: &mut usize,
+    programs: &mut Items<(u32, Stored<'a>)>,
     places: &mut BTreeMap<u32, usize>,
 ) -> Result<(), NoMemory>
-    requires { IsPlaced (λ x. x.0) programs.old (get nat_cmp places.old) }
-    ensures value { OnOk result (programs.new
-        ≡ kept.with_program sections.now programs.old at) }
+    requires placed { IsPlaced (λ x. x.0) programs.old (get nat_cmp places.old) }
+    requires stored { AreStored sections.now programs.old }
+    ensures value { OnOk result (seen sections.now programs.new
+        ≡ kept.with_program sections.now (seen sections.now programs.old) at) }
     ensures placed { OnOk result (IsPlaced (λ x. x.0) programs.new (get nat_cmp places.new)) }
+    ensures stored { OnOk result (AreStored sections.now programs.new) }
 {
     let Some(at) = at else {
         return Ok(());
@@ -194,29 +142,190 @@ fn add<'a>(
     if places.contains_key(&at) {
         return Ok(());
     }
-    let program = program_there(alloc, sections, at)?;
+    let stored = store(alloc, sections, at, room)?;
     places.insert(at, programs.len())?;
-    programs.push((at, program))?;
+    programs.push((at, stored))?;
     Ok(())
+}
+
+/// Reads the programs that units name, each once. All that is kept of them is never more than
+/// programs of bytes of their own could say.
+fn add_all<'a>(
+    alloc: Global,
+    sections: &PreparedSections<'a>,
+    units: &[UnitAnswer<'a>],
+    programs: &mut Items<(u32, Stored<'a>)>,
+    places: &mut BTreeMap<u32, usize>,
+) -> Result<(), NoMemory>
+    requires placed { IsPlaced (λ x. x.0) programs.old (get nat_cmp places.old) }
+    requires stored { AreStored sections.now programs.old }
+    ensures value { OnOk result (seen sections.now programs.new
+        ≡ fold (λ xs u. kept.with_program sections.now xs (definitions.named u))
+        (seen sections.now programs.old) units.now) }
+    ensures placed { OnOk result (IsPlaced (λ x. x.0) programs.new (get nat_cmp places.new)) }
+    ensures stored { OnOk result (AreStored sections.now programs.new) }
+{
+    let mut room = sections.sections().base.line.len();
+    for answer in units {
+        let at = named(answer);
+        add(alloc, sections, at, &mut room, programs, places)?;
+    }
+    Ok(())
+}
+
+// ---- what is asked of them
+
+/// The first program of an offset, beside it.
+fn placed<'r, 'a>(
+    at: u32,
+    programs: &'r [(u32, Stored<'a>)],
+    places: &BTreeMap<u32, usize>,
+) -> Option<&'r (u32, Stored<'a>)>
+    requires { IsPlaced (λ x. x.0) programs.now (get nat_cmp places.now) }
+    ensures { option_copied result ≡ find (λ x. x.0 == at) programs.now }
+{
+    let place = places.get(&at)?;
+    programs.get(*place)
+}
+
+/// What is kept of the first program of an offset.
+fn stored_at<'r, 'a>(
+    at: u32,
+    programs: &'r [(u32, Stored<'a>)],
+    places: &BTreeMap<u32, usize>,
+) -> Option<&'r Stored<'a>>
+    requires { IsPlaced (λ x. x.0) programs.now (get nat_cmp places.now) }
+    ensures { option_copied result
+        ≡ option_map (λ x. x.1) (find (λ x. x.0 == at) programs.now) }
+{
+    match placed(at, programs, places) {
+        Some((_, stored)) => Some(stored),
+        None => None,
+    }
+}
+
+/// The programs from a number on.
+fn behind<'r, 'a>(number: usize, programs: &'r [(u32, Stored<'a>)]) -> &'r [(u32, Stored<'a>)]
+    ensures { result.now ≡ drop number programs.now }
+{
+    if programs.len() < number {
+        return &[];
+    }
+    &programs[number..]
+}
+
+/// The place of the row of an address in the first of these programs that has one.
+fn first_place<'a>(
+    alloc: Global,
+    sections: &PreparedSections<'a>,
+    programs: &[(u32, Stored<'a>)],
+    address: u32,
+) -> Result<Option<RowPlace<'a>>, NoMemory>
+    requires { AreStored sections.now programs.now }
+    ensures { IfOk result (λ place. place
+        ≡ places_among sections.now programs.now address) }
+{
+    for program in programs {
+        let place = stored_place(alloc, sections, program.0, &program.1, address)?;
+        if let Some(place) = place {
+            return Ok(Some(place));
+        }
+    }
+    Ok(None)
+}
+
+/// The same where it is known which of them may hold an address first: the first one of these has
+/// a row, unless nothing but its bounds is kept.
+fn place_by<'a>(
+    alloc: Global,
+    sections: &PreparedSections<'a>,
+    programs: &[(u32, Stored<'a>)],
+    held: &Steps,
+    address: u32,
+) -> Result<Option<RowPlace<'a>>, NoMemory>
+    requires held { Answer (ranges_from claims_in 0 programs.now) held.now }
+    requires stored { AreStored sections.now programs.now }
+    ensures { IfOk result (λ place. place
+        ≡ places_among sections.now programs.now address) }
+{
+    let Some(number) = held.at(address) else {
+        return Ok(None);
+    };
+    let place = first_place(alloc, sections, behind(number, programs), address)?;
+    Ok(place)
+}
+
+/// The name of the file of a number in the program at an offset.
+fn path_at<'a>(
+    alloc: Global,
+    sections: &PreparedSections<'a>,
+    programs: &[(u32, Stored<'a>)],
+    places: &BTreeMap<u32, usize>,
+    at: u32,
+    number: u64,
+) -> Result<Option<Path<'a>>, NoMemory>
+    requires placed { IsPlaced (λ x. x.0) programs.now (get nat_cmp places.now) }
+    requires stored { AreStored sections.now programs.now }
+    ensures { IfOk result (λ path. path
+        ≡ path_at (kept.program_at (seen sections.now programs.now) at) number) }
+{
+    match stored_at(at, programs, places) {
+        Some(stored) => {
+            let path = stored_path(alloc, sections, at, stored, number)?;
+            Ok(path)
+        }
+        None => Ok(None),
+    }
+}
+
+/// Adds what stands at an offset, where it can be read.
+fn push_lines<'a>(
+    alloc: Global,
+    sections: &PreparedSections<'a>,
+    at: u32,
+    lines: &mut Items<Lines<'a>>,
+) -> Result<(), NoMemory>
+    ensures { OnOk result (lines.new
+        ≡ lines.old ++ kept.read_in (definitions.program_there sections.now at)) }
+{
+    let program = program_there(alloc, sections, at)?;
+    match program {
+        Program::Read(read) => lines.push(read),
+        Program::Unreadable => Ok(()),
+    }
+}
+
+fn lines_of<'a>(
+    alloc: Global,
+    sections: &PreparedSections<'a>,
+    programs: &[(u32, Stored<'a>)],
+) -> Result<Items<Lines<'a>>, NoMemory>
+    ensures { IfOk result (λ lines. lines
+        ≡ kept.readable (seen sections.now programs.now)) }
+{
+    let mut lines = Items::new(alloc);
+    for program in programs {
+        push_lines(alloc, sections, program.0, &mut lines)?;
+    }
+    Ok(lines)
 }
 
 impl<'a> Programs<'a> {
     #[tactic(auto, unfolding(crate::specs::calls::Kept::programs_of))]
     fn read(
         alloc: Global,
-        sections: &PreparedSections<'a>,
+        sections: PreparedSections<'a>,
         units: &[UnitAnswer<'a>],
     ) -> Result<Self, NoMemory>
         ensures { IfOk result (λ programs. programs
-            ≡ kept.programs_of sections.now units.now) }
+            ≡ kept.programs_of sections.entry units.now) }
     {
         let mut programs = Items::new(alloc);
         let mut places = BTreeMap::new(alloc);
-        for answer in units {
-            add(alloc, sections, named(answer), &mut programs, &mut places)?;
-        }
+        add_all(alloc, &sections, units, &mut programs, &mut places)?;
         let held = steps_of(alloc, programs.as_slice())?;
         Ok(Programs {
+            sections,
             programs,
             places,
             held,
@@ -233,60 +342,56 @@ impl<'a> Programs<'a> {
             ≡ kept.programs_of sections.now units.now) }
     {
         let prepared = PreparedSections::new(alloc, sections)?;
-        Programs::read(alloc, &prepared, units)
+        Programs::read(alloc, prepared, units)
     }
 
-    /// Those that could be read, in the order in which units name them.
+    /// Those that can be read, in the order in which units name them. They are read once more.
     ///
     /// # Errors
     ///
     /// `NoMemory` where memory runs out.
-    pub fn lines(&self, alloc: Global) -> Result<Vec<&Lines<'a>>, NoMemory>
-        ensures { IfOk result (λ lines. map (λ l. l.now) lines.items
-            ≡ kept.readable self.now) }
+    pub fn lines(&self, alloc: Global) -> Result<Items<Lines<'a>>, NoMemory>
+        ensures { IfOk result (λ lines. lines ≡ kept.readable self.now) }
     {
-        let mut lines = Vec::new(alloc);
-        for (_, program) in self.programs.as_slice() {
-            if let Program::Read(read) = program {
-                lines.push(read)?;
-            }
-        }
+        let lines = lines_of(alloc, &self.sections, self.programs.as_slice())?;
         Ok(lines)
     }
 
-    /// The first program of an offset, beside it.
-    fn placed(&self, at: u32) -> Option<&(u32, Program<'a>)>
-        ensures { option_copied result ≡ find (λ x. x.0 == at) self.now }
+    /// Whether what stands at an offset that a unit names can be read.
+    pub(crate) fn is_read(&self, at: u32) -> Option<bool>
+        ensures { result ≡ option_map is_read (kept.program_at self.now at) }
     {
-        let place = self.places.get(&at)?;
-        self.programs.get(*place)
-    }
-
-    /// What stands at an offset that a unit names.
-    pub fn get(&self, at: u32) -> Option<&Program<'a>>
-        ensures { option_copied result ≡ kept.program_at self.now at }
-    {
-        match self.placed(at) {
-            Some((_, program)) => Some(program),
+        match stored_at(at, self.programs.as_slice(), &self.places) {
+            Some(stored) => Some(stored.is_read()),
             None => None,
         }
     }
 
-    /// The program of a number, from 0.
-    fn nth(&self, number: usize) -> Option<&Program<'a>>
-        ensures { option_copied result ≡ option_map (λ p. p.1) (slice_get self.now number) }
+    /// The name of the file of a number in the program at an offset that a unit names.
+    pub(crate) fn path(
+        &self,
+        alloc: Global,
+        at: u32,
+        number: u64,
+    ) -> Result<Option<Path<'a>>, NoMemory>
+        ensures { IfOk result (λ path. path ≡ path_at (kept.program_at self.now at) number) }
     {
-        match self.programs.get(number) {
-            Some((_, program)) => Some(program),
-            None => None,
-        }
+        let programs = self.programs.as_slice();
+        let path = path_at(alloc, &self.sections, programs, &self.places, at, number)?;
+        Ok(path)
     }
 
-    /// The row of a code address: of the first program that has one.
-    pub(crate) fn located<'r>(&'r self, address: u32) -> Option<Located<'r, 'a>>
-        ensures { result ≡ kept.located_among self.now address }
+    /// The place of the row of a code address: in the first program that has one.
+    pub(crate) fn place(
+        &self,
+        alloc: Global,
+        address: u32,
+    ) -> Result<Option<RowPlace<'a>>, NoMemory>
+        ensures { IfOk result (λ place. place
+            ≡ option_map row_place (kept.located_among self.now address)) }
     {
-        let program = self.nth(self.held.at(address)?)?;
-        located_in(program, address)
+        let programs = self.programs.as_slice();
+        let place = place_by(alloc, &self.sections, programs, &self.held, address)?;
+        Ok(place)
     }
 }

@@ -1,15 +1,17 @@
 //! What is known of the code addresses of frames.
 
-ghost use Rattle.std.specs.Prelude.{◌≡◌, IfOk, IfSome, option_copied};
+ghost use Rattle.std.specs.Prelude.{◌≡◌, IfOk, IfSome, option_copied, option_map};
+ghost use Rattle.dwarf_scopes.specs.Scopes.{subprogram_at, inlined_at};
 ghost use Rattle.debug_frames.specs.Frames as definitions;
 ghost use Rattle.debug_frames.specs.Programs.{located_at};
+ghost use Rattle.debug_frames.specs.inner.Paths.{row_place};
 ghost use Rattle.debug_frames.specs.inner.Resolving.{resolved_at};
 
 use crate::information::Information;
-use crate::programs::Located;
+use crate::rows::RowPlace;
 use causes::NoMemory;
 use dwarf_entries::{Standing, name_of};
-use dwarf_scopes::Subprograms;
+use dwarf_scopes::{Found, Subprograms, found_at};
 use pm_text::Items;
 use std::alloc::Global;
 use std::collections::BTreeMap;
@@ -23,8 +25,8 @@ pub struct Resolved<'r, 'a> {
     pub name: Option<&'a [u8]>,
     /// The inlined subroutines that hold it, the innermost first.
     pub inlined: Items<Standing<'r, 'a>>,
-    /// Its row.
-    pub located: Option<Located<'r, 'a>>,
+    /// The place of its row.
+    pub place: Option<RowPlace<'a>>,
 }
 
 impl<'r, 'a> Model for Resolved<'r, 'a> {
@@ -37,7 +39,7 @@ impl<'r, 'a> Model for Resolved<'r, 'a> {
       address = x.address;
       name = option_copied x.name;
       inlined = x.inlined;
-      located = x.located;
+      place = x.place;
     } };
 }
 
@@ -54,11 +56,39 @@ fn name_within<'r, 'a>(
     }
 }
 
-/// The row of an address.
-fn row_at<'r, 'a>(information: &'r Information<'a>, address: u32) -> Option<Located<'r, 'a>>
-    ensures { result ≡ located_at information.now.sections information.now.units address }
+/// The place of the row of an address.
+fn place_at<'a>(
+    alloc: Global,
+    information: &Information<'a>,
+    address: u32,
+) -> Result<Option<RowPlace<'a>>, NoMemory>
+    ensures { IfOk result (λ place. place ≡ option_map row_place
+        (located_at information.now.sections information.now.units address)) }
 {
-    information.programs().located(address)
+    let place = information.programs().place(alloc, address)?;
+    Ok(place)
+}
+
+/// What stands at an address: by the subprograms where they were gathered.
+fn found_in<'r, 'a>(
+    alloc: Global,
+    information: &'r Information<'a>,
+    subprograms: &Option<Subprograms<'r, 'a>>,
+    address: u32,
+) -> Result<Found<'r, 'a>, NoMemory>
+    requires { IfSome subprograms.now (λ s. s ≡ information.now.units) }
+    ensures subprogram { IfOk result (λ x. x.subprogram
+        ≡ subprogram_at information.now.sections information.now.units address) }
+    ensures inlined { IfOk result (λ x. x.inlined
+        ≡ inlined_at information.now.sections information.now.units address) }
+{
+    match subprograms {
+        Some(subprograms) => subprograms.find(alloc, information.sections(), address),
+        None => {
+            let units = information.units().as_slice();
+            found_at(alloc, information.sections(), units, address)
+        }
+    }
 }
 
 impl<'r, 'a> Resolved<'r, 'a> {
@@ -66,18 +96,19 @@ impl<'r, 'a> Resolved<'r, 'a> {
     pub fn of(
         alloc: Global,
         information: &'r Information<'a>,
-        subprograms: &Subprograms<'r, 'a>,
+        subprograms: &Option<Subprograms<'r, 'a>>,
         address: u32,
     ) -> Result<Self, NoMemory>
-        requires { subprograms.now ≡ information.now.units }
+        requires { IfSome subprograms.now (λ s. s ≡ information.now.units) }
         ensures { IfOk result (λ x. x ≡ resolved_at information.now address) }
     {
-        let found = subprograms.find(alloc, information.sections(), address)?;
+        let found = found_in(alloc, information, subprograms, address)?;
+        let place = place_at(alloc, information, address)?;
         Ok(Resolved {
             address,
             name: name_within(information, &found.subprogram),
             inlined: found.inlined,
-            located: row_at(information, address),
+            place,
         })
     }
 }
@@ -87,7 +118,8 @@ impl<'r, 'a> Resolved<'r, 'a> {
 #[derive(Drop)]
 pub struct Symbolizer<'r, 'a> {
     information: &'r Information<'a>,
-    subprograms: Subprograms<'r, 'a>,
+    // Gathered where they pay.
+    subprograms: Option<Subprograms<'r, 'a>>,
     known: BTreeMap<u32, Resolved<'r, 'a>>,
 }
 
@@ -103,16 +135,38 @@ impl<'r, 'a> Model for Symbolizer<'r, 'a> {
 
     ghost view = { λ s. s.information.now };
 
-    ghost invariant = { λ s. (s.subprograms ≡ s.information.now.units)
+    ghost invariant = { λ s. (IfSome s.subprograms (λ x. x ≡ s.information.now.units))
         × ((q : ℕ) → IfSome (get nat_cmp s.known q) (λ x. x ≡ resolved_at s.information.now q)) };
 }
 
+/// For so few frames gathering the subprograms takes longer than going through the entries for each.
+const FEW: usize = 4;
+
+/// The subprograms, where so many frames are asked for that gathering them pays.
+fn gathered<'r, 'a>(
+    alloc: Global,
+    information: &'r Information<'a>,
+    frames: usize,
+) -> Result<Option<Subprograms<'r, 'a>>, NoMemory>
+    ensures { IfOk result (λ o. IfSome o (λ s. s ≡ information.now.units)) }
+{
+    if frames <= FEW {
+        return Ok(None);
+    }
+    let subprograms = Subprograms::of(alloc, information.units().as_slice())?;
+    Ok(Some(subprograms))
+}
+
 impl<'r, 'a> Symbolizer<'r, 'a> {
-    /// Nothing is known yet.
-    pub fn new(alloc: Global, information: &'r Information<'a>) -> Result<Self, NoMemory>
+    /// Nothing is known yet. It is made for so many frames.
+    pub fn new(
+        alloc: Global,
+        information: &'r Information<'a>,
+        frames: usize,
+    ) -> Result<Self, NoMemory>
         ensures { IfOk result (λ s. s ≡ information.now) }
     {
-        let subprograms = Subprograms::of(alloc, information.units().as_slice())?;
+        let subprograms = gathered(alloc, information, frames)?;
         Ok(Symbolizer {
             information,
             subprograms,

@@ -6,7 +6,7 @@ ghost use Rattle.debug_frames.specs.Unreadable as definitions;
 ghost use Rattle.debug_frames.specs.calls.Kept.{IsKept};
 
 use crate::information::Information;
-use crate::programs::{Program, named};
+use crate::programs::named;
 use causes::NoMemory;
 use commands::push_number;
 use dwarf_info::UnitAnswer;
@@ -35,10 +35,10 @@ fn push_program(
     let Some(at) = at else {
         return Ok(());
     };
-    match information.program(at) {
-        Program::Unreadable => push_line(out, ".debug_line", u64::from(at)),
-        Program::Read(_) => Ok(()),
+    if information.is_read(at) {
+        return Ok(());
     }
+    push_line(out, ".debug_line", u64::from(at))
 }
 
 fn push_unit(

@@ -13,7 +13,3 @@ held_by s = map (λ (b : ℕ × ℕ). (b.0, pos b.1)) (option_to_list (held s))
 abbrev pub held_of : Program → List (ℕ × ℤ)
 held_of (Read lines) = flat_map held_by lines.sequences
 held_of Unreadable = []
-
--- of a program at its offset
-abbrev pub held_in : ℕ × Program → List (ℕ × ℤ)
-held_in p = held_of p.1
