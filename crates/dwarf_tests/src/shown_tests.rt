@@ -9,11 +9,10 @@ use causes::NoMemory;
 use dwarf_entries::standing_at;
 use dwarf_expr::FrameView;
 use dwarf_info::Units;
-use dwarf_scopes::no_locations;
 use linear_memory::Memory;
 use pm_text::Text;
 use std::alloc::Global;
-use var_eval::{Shown, VariableFrame, push_variable, value_at, value_of};
+use var_eval::{Shown, VariableFrame, no_sources, push_variable, value_at, value_of};
 use var_path::parse_path;
 use wasm_syntax::Seen;
 
@@ -64,7 +63,7 @@ fn listed(
         return Ok(Shown::NoVariable);
     };
     let mut text = Text::new(alloc);
-    push_variable(alloc, &mut text, frame, &variable, &mut no_locations(alloc))?;
+    push_variable(alloc, &mut text, frame, &variable, &mut no_sources(alloc))?;
     Ok(Shown::Text(text))
 }
 

@@ -6,7 +6,7 @@ use crate::reading::{sections4, units4};
 use crate::samples::{ABBREV, CHAIN, CHAIN_ABBREV, INFO, STACK};
 use dwarf_expr::{FrameView, PiecePlace};
 use dwarf_info::Units;
-use dwarf_types::type_at;
+use dwarf_types::{Arrays, TypedUnits, type_at};
 use linear_memory::Memory;
 use std::alloc::Global;
 use var_eval::{Part, chosen, walk};
@@ -33,7 +33,7 @@ enum Reached {
 // The offset of a type, the address of a value of it, a path from there, and where it leads.
 type Row = (u32, u32, &'static str, Reached);
 
-fn place_of(part: &Part<'_, '_>) -> Reached {
+fn place_of(part: &Part<'_, '_, '_>) -> Reached {
     let place = part.place();
     match place.source {
         Source::Single(PiecePlace::Address(address)) => match place.bits {
@@ -59,9 +59,13 @@ fn walked(
         globals: &[],
         memory: memory.as_ref(),
     };
-    let typed = type_at(units, row.0);
+    let Ok(arrays) = Arrays::of(alloc, units) else {
+        return Reached::Other;
+    };
+    let units = TypedUnits::new(units, &arrays);
+    let typed = type_at(&units, row.0);
     let source = Source::Single(PiecePlace::Address(row.1));
-    match walk(alloc, units, &view, path.steps.as_slice(), typed, source) {
+    match walk(alloc, &units, &view, path.steps.as_slice(), typed, source) {
         Ok(Ok(part)) => place_of(&part),
         Ok(Err(mark)) => Reached::Unfit(mark),
         Err(_) => Reached::Other,

@@ -5,7 +5,7 @@ use crate::frames::{Origin, memory_with, source_of};
 use crate::reading::units4;
 use dwarf_expr::FrameView;
 use dwarf_info::Units;
-use dwarf_types::type_at;
+use dwarf_types::{Arrays, TypedUnits, type_at};
 use linear_memory::Memory;
 use pm_text::Text;
 use std::alloc::Global;
@@ -128,6 +128,10 @@ const CONTENTS: [(u64, &[u8]); 2] = [
 ];
 
 fn has_text(alloc: Global, units: &Units<'_>, memory: &Option<Memory>, row: &Row) -> bool {
+    let Ok(arrays) = Arrays::of(alloc, units) else {
+        return false;
+    };
+    let units = TypedUnits::new(units, &arrays);
     let view = FrameView {
         locals: &[],
         operands: &[],
@@ -144,9 +148,9 @@ fn has_text(alloc: Global, units: &Units<'_>, memory: &Option<Memory>, row: &Row
     match push_value(
         alloc,
         &mut text,
-        units,
+        &units,
         &view,
-        &type_at(units, row.0),
+        &type_at(&units, row.0),
         &place,
     ) {
         Ok(Some(mark)) => text.is_empty() && mark.text() == row.2,

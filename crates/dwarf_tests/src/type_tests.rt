@@ -4,7 +4,8 @@
 use crate::reading::units4;
 use crate::samples::{ABBREV, CHAIN, CHAIN_ABBREV, INFO};
 use dwarf_info::Units;
-use dwarf_types::{Kind, kind_of, size_of};
+use dwarf_types::{Arrays, Kind, TypedUnits, kind_of, size_of};
+use std::alloc::Global;
 
 // An offset, the kind of the type there, and its size.
 type Row = (u32, Kind, Option<u64>);
@@ -32,12 +33,16 @@ const CHAINED: [Row; 2] = [
 ];
 
 /// The number of the first row with another kind or size, or how many rows there are.
-fn first_other_type(units: &Option<Units<'_>>, rows: &[Row]) -> usize {
+fn first_other_type(alloc: Global, units: &Option<Units<'_>>, rows: &[Row]) -> usize {
     let Some(units) = units else {
         return 0;
     };
+    let Ok(arrays) = Arrays::of(alloc, units) else {
+        return 0;
+    };
+    let units = TypedUnits::new(units, &arrays);
     for (i, (at, kind, size)) in rows.iter().enumerate() {
-        if kind_of(units, *at) != *kind || size_of(units, *at) != *size {
+        if kind_of(&units, *at) != *kind || size_of(&units, *at) != *size {
             return i;
         }
     }
@@ -46,13 +51,21 @@ fn first_other_type(units: &Option<Units<'_>>, rows: &[Row]) -> usize {
 
 #[test]
 fn types_of_a_module_are_known(rt: HostRuntime) {
-    let wrong = first_other_type(&units4(rt.alloc(), &INFO, &ABBREV, &[]), &COMPILED);
+    let wrong = first_other_type(
+        rt.alloc(),
+        &units4(rt.alloc(), &INFO, &ABBREV, &[]),
+        &COMPILED,
+    );
     assert_eq!(rt; wrong, COMPILED.len());
 }
 
 #[test]
 fn chains_have_sixteen_entries(rt: HostRuntime) {
-    let wrong = first_other_type(&units4(rt.alloc(), &CHAIN, &CHAIN_ABBREV, &[]), &CHAINED);
+    let wrong = first_other_type(
+        rt.alloc(),
+        &units4(rt.alloc(), &CHAIN, &CHAIN_ABBREV, &[]),
+        &CHAINED,
+    );
     assert_eq!(rt; wrong, CHAINED.len());
 }
 
@@ -91,12 +104,16 @@ const SIZES: [(u32, Option<u64>); 14] = [
 ];
 
 /// The number of the first row with another size, or how many rows there are.
-fn first_other_size(units: &Option<Units<'_>>) -> usize {
+fn first_other_size(alloc: Global, units: &Option<Units<'_>>) -> usize {
     let Some(units) = units else {
         return 0;
     };
+    let Ok(arrays) = Arrays::of(alloc, units) else {
+        return 0;
+    };
+    let units = TypedUnits::new(units, &arrays);
     for (i, (at, size)) in SIZES.iter().enumerate() {
-        if size_of(units, *at) != *size {
+        if size_of(&units, *at) != *size {
             return i;
         }
     }
@@ -105,6 +122,6 @@ fn first_other_size(units: &Option<Units<'_>>) -> usize {
 
 #[test]
 fn sizes_are_products(rt: HostRuntime) {
-    let wrong = first_other_size(&units4(rt.alloc(), &ARRAYS, &ARRAY_ABBREV, &[]));
+    let wrong = first_other_size(rt.alloc(), &units4(rt.alloc(), &ARRAYS, &ARRAY_ABBREV, &[]));
     assert_eq!(rt; wrong, SIZES.len());
 }
