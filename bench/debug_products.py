@@ -23,7 +23,7 @@ from debug_shapes import (
 from writer import custom, i32, section, u32, vector
 
 # Attributes and forms of DWARF 4 and 5 that debug_shapes does not use.
-TYPE, DECLARED_LINE, EXTERNAL = 0x49, 0x3B, 0x3F
+TYPE, DECLARED_LINE, DECLARATION, EXTERNAL = 0x49, 0x3B, 0x3C, 0x3F
 ADDR, DATA1, REF4, PRESENT, IMPLICIT = 0x01, 0x0B, 0x13, 0x19, 0x21
 # The code of a row of a table that a shape adds.
 OWN = u32(100)
@@ -92,6 +92,31 @@ def entries_of_flags(size):
     entries = Entries()
     entries.bytes += OWN * (size // 2)
     return debugged(entries.done(), "bt", abbreviations=with_row(0x34, 0, slot(EXTERNAL, PRESENT) * (size // 4)))
+
+
+def entries_of_two_flags(size):
+    """The same with two attributes in turn."""
+    entries = Entries()
+    entries.bytes += OWN * (size // 2)
+    pair = slot(EXTERNAL, PRESENT) + slot(DECLARATION, PRESENT)
+    return debugged(entries.done(), "bt", abbreviations=with_row(0x34, 0, pair * (size // 8)))
+
+
+def pairs_alone(size):
+    """One entry, of an abbreviation that is nearly all of the module."""
+    entries = Entries()
+    entries.bytes += OWN
+    pair = slot(0x7F, PRESENT) + slot(0x7E, PRESENT)
+    return debugged(entries.done(), "bt", abbreviations=with_row(0x34, 0, pair * (size // 4)))
+
+
+def entries_beside_a_lost_reference(size):
+    """Entries of one byte, in a unit with a reference that meets none."""
+    entries = Entries()
+    entries.bytes += OWN * size
+    entries.function()
+    entries.variable(0x7FFFFFFF)
+    return debugged(entries.done(), "bt", abbreviations=with_row(0x34, 0, b""))
 
 
 def entries_of_constants(size):
@@ -342,14 +367,25 @@ def frames_of_groups(size):
 
 # ---- line programs
 
-def programs_of_one_tail(size):
-    """Line programs of which each has the next ones in it, in an opcode that is passed over, and all the rows at the end."""
-    n, m = size // 72, size // 2
+def tail_of_rows(size):
+    """The opcodes of one sequence of as many rows as bytes."""
+    return b"\1" * size + b"\0\1\1"
+
+
+def tail_of_sequences(size):
+    """The opcodes of sequences that hold addresses."""
+    one = at_address(0x40000000) + b"\xff\0\1\1"
+    return one * (size // len(one))
+
+
+def programs_of_one_tail(size, tail):
+    """Line programs of which each has the next ones in it, in an opcode that is passed over, and `tail` for so many bytes at the end. Their opcodes but 0 are all special."""
+    n, end = size // 72, tail(size // 2)
     parameters = bytes([1, 1, 0xFB, 14, 1])
     wrap = b"\0" + u32(18) + b"\x80"
-    length = 20 * n - len(wrap) + m + 3
+    length = 20 * n - len(wrap) + len(end)
     heads = (struct.pack("<IHI", length - 20 * i - 4, 3, 7) + parameters + b"\0\0" for i in range(n))
-    lines = wrap.join(heads) + b"\1" * m + b"\0\1\1"
+    lines = wrap.join(heads) + end
     info = b"".join(unit(CODES["unit of lines alone"] + struct.pack("<I", 20 * i)) for i in range(n))
     entries = Entries()
     entries.function()
@@ -390,7 +426,10 @@ SHAPES = [
     ("units of all rows of a table of abbreviations, version 5", lambda size: units_of_rows(size, version=5)),
     ("units of all rows, whose code is that of the last one", units_of_last_row),
     ("units of rows inside one row, version 5", units_of_inner_rows),
+    ("short entries beside a reference that meets none", entries_beside_a_lost_reference),
     ("entries of flags without bytes", entries_of_flags),
+    ("entries of two flags in turn", entries_of_two_flags),
+    ("an abbreviation of pairs alone", pairs_alone),
     ("entries of constants without bytes, version 5", entries_of_constants),
     ("a type behind many attributes", variables_of_long_typedef),
     ("the base of lists behind many attributes", variables_of_long_root),
@@ -418,7 +457,8 @@ SHAPES = [
     ("frames over overlapping sequences", lambda size: frames_of_lines(size, overlapping_sequences)),
     ("frames over rows that do not ascend", lambda size: frames_of_lines(size, falling_rows)),
     ("frames over groups of no locals", frames_of_groups),
-    ("line programs of one tail", programs_of_one_tail),
+    ("line programs of one tail", lambda size: programs_of_one_tail(size, tail_of_rows)),
+    ("line programs of one tail of sequences", lambda size: programs_of_one_tail(size, tail_of_sequences)),
     ("line programs whose offsets collide", colliding_programs),
     ("names of functions whose numbers collide", colliding_names),
 ]
