@@ -11,7 +11,7 @@ use causes::NoMemory;
 use rewrite_code::{CodeWriter, FunctionContext, OperandPlace};
 use wasm_syntax::{Basic, Binary, Compare, Convert, ValType, Value};
 
-/// The bytes of most accesses, by which the global of the length is less than it.
+/// The bytes of most accesses, by which the local of the length is less than it.
 const WORD: u64 = 4;
 
 /// The height so many operands above another one.
@@ -26,7 +26,7 @@ pub(crate) fn above(context: &FunctionContext<'_, '_>, height: usize, count: usi
 
 /// Whether the i64 on top is past the end of the memory.
 fn past_end(context: &FunctionContext<'_, '_>, writer: &mut CodeWriter) -> Result<(), NoMemory>
-    ensures { OnOk result (Emits (past_end context.now.source) writer.old writer.new) }
+    ensures { OnOk result (Emits (past_end context.now) writer.old writer.new) }
 {
     context.get_length(writer)?;
     writer.const_value(Value::I64(WORD))?;
@@ -52,7 +52,7 @@ fn out_test(
     writer: &mut CodeWriter,
     count: u64,
 ) -> Result<(), NoMemory>
-    ensures { OnOk result (Emits (out_test context.now.source count) writer.old writer.new) }
+    ensures { OnOk result (Emits (out_test context.now count) writer.old writer.new) }
 {
     writer.basic(Basic::Convert(Convert::ExtendU))?;
     context.get_length(writer)?;

@@ -12,7 +12,7 @@ use Rattle.rewrite_bodies.specs.calls.Pieces.{call, keep, spill}
 use Rattle.rewrite_bodies.specs.calls.Rewrite.{passes, plain, with_result, control, call_code, indirect_code, after_direct, rewrite}
 use Rattle.rewrite_bodies.specs.calls.Typed.{end_gives}
 use Rattle.rewrite_bodies.specs.calls.Agreement.{Room, Room_jump, Room_call}
-use Rattle.rewrite_bodies.proofs.Sim.{room_height}
+use Rattle.rewrite_bodies.proofs.Sim.{room_height, grown_longer}
 use Rattle.rewrite_code.specs.calls.Writing.{Written, Behind, ends, alternates, goes, Emits, EmitsLast, Opens, Alternates}
 use Rattle.operand_spill.specs.declared.labels.Label.TheVariants as kept
 use Rattle.operand_spill.specs.declared.labels.OpenBlock.{OpenBlock}
@@ -20,7 +20,6 @@ use Rattle.operand_spill.specs.calls.Labels.{info}
 use Rattle.operand_spill.specs.calls.Walking.{Walking, walking, with_places, opened, at_start, opening, behind_block, alternating_in, alternating, closing_in, closing}
 use Rattle.operand_spill.specs.calls.Standing.{Due, before_end, before_else, flat, Armed, Passes, depth_in, Fine, IsLast, Around, rest_of, due, Stands, Leaves, Comes, Rewrites, Left}
 use Rattle.operand_spill.proofs.Shapes.{Begins, Shape, shape}
-use Rattle.rewrite_bodies.proofs.Control.{grown_longer}
 
 -- ---- lengths of written code
 

@@ -11,5 +11,5 @@ pub fn slots_are_apart()
     ensures behind { (plan : Planned) (a : AddedLocal) → IsAdded plan a
         → length plan.locals ≤ number plan a }
     ensures counted { (plan : Planned) (a : AddedLocal) → IsAdded plan a
-        → number plan a < length plan.locals + (2 * plan.slots + 4) }
+        → number plan a < length plan.locals + (2 * plan.slots + 5) }
 {}

@@ -10,7 +10,7 @@ ghost use Rattle.operand_spill.specs.calls.Before.{before, constant_of, known_am
 ghost use Rattle.rewrite_bodies.specs.calls.Slots.{ctx_of};
 ghost use Rattle.rewrite_code.specs.calls.Places.{place};
 ghost use Rattle.operand_spill.specs.calls.Plans.{Fits, IsDefined, IsPlan, own_types, number, Slot, Result, Kind};
-ghost use Rattle.operand_spill.specs.calls.Plans.{Offset};
+ghost use Rattle.operand_spill.specs.calls.Plans.{Offset, Length};
 
 use crate::heights::greatest_height;
 use crate::locals::local_types;
@@ -151,6 +151,13 @@ impl SlotPlan {
         self.locals.len() as u32 + self.slots + 2
     }
 
+    /// The local for the length of the memory.
+    pub fn length(&self) -> u32
+        ensures { result ≡ number self.now Length }
+    {
+        self.locals.len() as u32 + 2 * self.slots + 4
+    }
+
     /// The value of an operand before a live instruction of the planned function, by the number of
     /// operands below it, where a constant instruction pushed it and it was not taken since. Dead
     /// code has none. It walks over the body up to there.
@@ -180,10 +187,10 @@ impl SlotPlan {
     }
 
     /// How many locals are added: a slot of each type for each height, two for results, one for a
-    /// kind and one for an offset.
+    /// kind, one for an offset and one for the length of the memory.
     pub fn locals(&self) -> u32
-        ensures { result ≡ 2 * self.now.slots + 4 }
+        ensures { result ≡ 2 * self.now.slots + 5 }
     {
-        2 * self.slots + 4
+        2 * self.slots + 5
     }
 }

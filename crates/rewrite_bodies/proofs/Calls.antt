@@ -22,30 +22,31 @@ use Rattle.wasm_syntax.specs.declared.host.Reply.{Reply}
 use Rattle.wasm_syntax.specs.declared.host.CollectorCall.{CollectorCall}
 use Rattle.wasm_syntax.specs.declared.host.CollectorCall.TheVariants as collector_calls
 use Rattle.wasm_syntax.specs.Machine.{Kind, leaves, returns, Label, Frame, Config, label, frame, config, Engine, Stepped, next, traps, Cut, short, parts, one_more, cut, exactly, pick, zero_of, zeros, result_of, function_type, entered, host_call, deliver, host, enters, applied_if, calls_on, calls, step, offset_in, top}
-use Rattle.rewrite_bodies.specs.calls.Slots.{Place, Spilled, Ctx, slot, kind_at, offset_at, added, less, grown, ctx_of, Landing}
+use Rattle.rewrite_bodies.specs.calls.Slots.{Place, Spilled, Ctx, slot, kind_at, offset_at, added, less, grown, ctx_of, Landing, measured}
 use Rattle.rewrite_bodies.specs.calls.Rewrite.{hand, hand_top, to_exit, hand_left, test_flag, test_both, unwind, unwind_kind, passes, after_direct, call_code, helper_of, past_shown, rewrite, body}
 use Rattle.rewrite_bodies.specs.Numbering.{import_count, mapped, place_in, global_types, helper_base, helped, doubles, flag_of}
 use Rattle.rewrite_bodies.proofs.Doubled.{past, entry_past, entry_low}
 use Rattle.rewrite_bodies.specs.calls.Pieces.{get, set, const, call, if_any, fetch, load, keep, store, reload, drops, tree_of}
 use Rattle.linear_memory.specs.Memory.{Memory}
 use Rattle.linear_memory.specs.Memory as memories
-use Rattle.rewrite_bodies.specs.calls.Agreement.{Holds, now, joined, Wit, UnderWay, t_frame, FitsIn, Has, Room_call, Room, FitsLabels, FitsOpen, MemoryFits, NoKind, WorldFits, FitsFrame, FitsFrames, Wrap, zero_vs, t_frames, flagged, byte_count}
+use Rattle.rewrite_bodies.specs.calls.Agreement.{Holds, now, joined, Wit, UnderWay, t_frame, FitsIn, Has, Room_call, Room, FitsLabels, FitsOpen, MemoryFits, NoKind, WorldFits, FitsFrame, FitsFrames, Wrap, zero_vs, t_frames, flagged, byte_count, Waits, Runs, running, HasLength, told_length}
 use Rattle.rewrite_bodies.specs.calls.Steps.{Gets, To, Shell, st}
-use Rattle.rewrite_bodies.proofs.Run.{stored_other, kind_no_slot, slice_get-put_other, added_get, added_set, slice_get-put_same, types-slice_set, added_kind, more_parts, one_step, seq, weaken, push_to, still, fetch_to, load_to, less_holds, store_to, reload_to, drops_to, cut_front, added_offset}
-use Rattle.rewrite_bodies.proofs.Passing.{loosened, as_open, kept_all, open_marked, stored_unless, types_unless, arrived, kept_unless}
+use Rattle.rewrite_bodies.proofs.Run.{stored_other, kind_no_slot, slice_get-put_other, added_get, added_set, slice_get-put_same, types-slice_set, added_kind, more_parts, one_step, seq, weaken, push_to, still, fetch_to, load_to, less_holds, store_to, drops_to, cut_front, added_offset}
+use Rattle.rewrite_bodies.proofs.Passing.{loosened, as_open, kept_all, open_marked, stored_unless, types_unless, arrived, kept_unless, has_unless}
 use Rattle.rewrite_bodies.proofs.Parts.{put_keeps, cut_all, fits_kind, fits_offset, settle, step_plain}
-use Rattle.rewrite_bodies.specs.calls.Guards.{less_word, renew, helper, entry_label, says, first_table}
+use Rattle.rewrite_bodies.specs.calls.Guards.{less_word, helper, entry_label, says, first_table, measure, renew_both}
 use Rattle.rewrite_bodies.specs.calls.Telling.{tell_labels, tell_locals, tell_frame, tell_ops}
 use Rattle.std.proofs.lemmas.List.{map-append}
 use Rattle.rewrite_bodies.specs.calls.Standing.{Linked, Speaks, HelperLinked, Stands}
-use Rattle.rewrite_bodies.proofs.Sim.{refit, refit_under, room_height, grown-append, grown_fits, len_of, flag_len, shell, tgt, wit, wit_under, armed, if_zero_to}
-use Rattle.rewrite_bodies.proofs.Control.{flag_down, both_to, grown_longer}
-use Rattle.rewrite_bodies.proofs.Measures.{renew_to}
+use Rattle.rewrite_bodies.proofs.Sim.{refit, refit_under, room_height, grown-append, grown_fits, len_of, flag_len, shell, tgt, wit, wit_under, armed, if_zero_to, grown_longer}
+use Rattle.rewrite_bodies.proofs.Control.{flag_down, both_to}
+use Rattle.rewrite_bodies.proofs.Told.{remeasured, types_told, has_told, any_length, open_told, reload_told}
+use Rattle.rewrite_bodies.proofs.Measures.{measure_to, renew_both_to}
 use Rattle.rewrite_bodies.proofs.Unwind.{frame_out, Hands, hand_to, hand_left_to, Up, up_all, renamed, AllIn, landed_out}
 use Rattle.wasm_syntax.specs.declared.host.Write.{Write}
 use Rattle.wasm_laws.proofs.Progress.{types_append, zero_types, same_of}
 use Rattle.wasm_syntax.proofs.Types.{same_type_is, same_types_are, same_functype_refl}
-use Rattle.rewrite_bodies.proofs.Laid.{few_landings, room_landed, into_body}
+use Rattle.rewrite_bodies.proofs.Laid.{few_landings, room_landed, into_function}
 use Rattle.rewrite_bodies.specs.calls.Landings.{number_of, landing_behind, landings_from, with_landings, landed, part_of}
 use Rattle.rewrite_bodies.proofs.Landed.{exit_branch, marked, types_marked}
 use Rattle.rewrite_bodies.specs.inner.Promises.{Comes}
@@ -154,7 +155,7 @@ module _ (M M' : Engine) (E : ℕ) (gl : List ValType) (W : Wrap) (S : Stands M 
   deep : (a b : ℕ) → nat_lt a b ≡ true → nat_lt (suc a) (suc (suc b)) ≡ true
   deep a b e = lt-ltb (suc a) (suc (suc b)) (omega (arith, ltb-true a b e))
 
-  module _ (C : Ctx) (ex : List Value) (e : List Place) (ss : List (List Place)) (ws : List Wit) (ix cl : ℕ) (r : Option ValType) (l ops : List Value) (en : ℕ) (kd : Kind) (Ls : List Label) (Fs : List Frame) (g : World) (co : List CollectorCall) (N : Nodes) (f : FitsFrame M E gl None (frame ix r cl l (label ops N en kd ∷ Ls)) (wit C ex (e ∷ ss))) (fs : FitsFrames M E gl W.result r Fs ws) (wf : WorldFits M gl g) where
+  module _ (C : Ctx) (ex : List Value) (e : List Place) (ss : List (List Place)) (ws : List Wit) (ix cl : ℕ) (r : Option ValType) (l ops : List Value) (en : ℕ) (kd : Kind) (Ls : List Label) (Fs : List Frame) (g : World) (co : List CollectorCall) (N : Nodes) (f : FitsFrame M E gl (running g) (frame ix r cl l (label ops N en kd ∷ Ls)) (wit C ex (e ∷ ss))) (fs : FitsFrames M E gl W.result r Fs ws) (wf : WorldFits M gl g) where
     abbrev FF : Frame
     FF = frame ix r cl l (label ops N en kd ∷ Ls)
 
@@ -187,7 +188,7 @@ module _ (M M' : Engine) (E : ℕ) (gl : List ValType) (W : Wrap) (S : Stands M 
 
     -- where no operand passes
     all_fit : passes C N ≡ false → FitsLabels C l ex None (LL ∷ Ls) (e ∷ ss)
-    all_fit p = kept_all C l ex LL Ls e ss p f.labels
+    all_fit p = kept_all C l ex (told_length g.memory) LL Ls e ss p f.labels
 
     -- a verdict is a trap, and this code hands over the operands of this frame: it hands over its values, and then the others do
     trap_out : passes C N ≡ false → (t : Config) (j : ℕ) (k : Nodes) (s ex1 : List Value) (H : Nodes) → types ex1 ≡ added C.slots → slice_get ex1 (kind_at C) ≡ Some (values.I32 (suc j)) → Hands M' C sp M l (leaves None) (armed X k s).below X.frames g 0 co (ls + length C.landings) H (LL ∷ Ls) (slice_set ex1 (offset_at C) (values.I32 o)) → To M' 1 (C.slots + 40) t (st (armed X k s) (l ++ ex1) [] (const (values.I32 o) (set C (offset_at C) H)) g0 co) → Comes M M' E gl W t (traps (suc j) (config (FF ∷ Fs) g co))
@@ -250,7 +251,7 @@ module _ (M M' : Engine) (E : ℕ) (gl : List ValType) (W : Wrap) (S : Stands M 
 
       abbrev Y_of : Option UnderWay → Shell
       Y_of None = X
-      Y_of (Some u) = armed X (test_both C ls es1 o u.others (drops (length u.taken) (renew C.source (reload C r1 es1 goes_on)))) (u.taken ++ below)
+      Y_of (Some u) = armed X (test_both C ls es1 o u.others (drops (length u.taken) (renew_both C (reload C r1 es1 goes_on)))) (u.taken ++ below)
 
       abbrev k1 : Nodes
       k1 = k1_of dq others
@@ -285,17 +286,17 @@ module _ (M M' : Engine) (E : ℕ) (gl : List ValType) (W : Wrap) (S : Stands M 
       types_marks false (Some u) ex2 room = refl
       types_marks true (Some u) ex2 room = refl
 
-      fits_marks : (q : Bool) (u : Option UnderWay) (ex2 : List Value) (L' : Label) (Ls' : List Label) (e2 : List Place) (ss' : List (List Place)) → length (e2 ++ joined ss') ≤ C.slots → FitsOpen C l ex2 None (L' ∷ Ls') (e2 ∷ ss') → FitsOpen C l (marks q u ex2) None (L' ∷ Ls') (e2 ∷ ss')
-      fits_marks false None ex2 L' Ls' e2 ss' low h = open_marked (number_of (landing_behind (part_of C.locals o) es1) C.landings) C o l ex2 L' Ls' e2 ss' low h
-      fits_marks true None ex2 L' Ls' e2 ss' low h = h
-      fits_marks false (Some u) ex2 L' Ls' e2 ss' low h = h
-      fits_marks true (Some u) ex2 L' Ls' e2 ss' low h = h
+      fits_marks : (q : Bool) (u : Option UnderWay) (ex2 : List Value) (n : ℕ) (L' : Label) (Ls' : List Label) (e2 : List Place) (ss' : List (List Place)) → length (e2 ++ joined ss') ≤ C.slots → FitsOpen C l ex2 (Runs n) (L' ∷ Ls') (e2 ∷ ss') → FitsOpen C l (marks q u ex2) (Runs n) (L' ∷ Ls') (e2 ∷ ss')
+      fits_marks false None ex2 n L' Ls' e2 ss' low h = open_marked (number_of (landing_behind (part_of C.locals o) es1) C.landings) C o l ex2 n L' Ls' e2 ss' low h
+      fits_marks true None ex2 n L' Ls' e2 ss' low h = h
+      fits_marks false (Some u) ex2 n L' Ls' e2 ss' low h = h
+      fits_marks true (Some u) ex2 n L' Ls' e2 ss' low h = h
 
       -- what is there when they are kept, or pass
-      settled : (u : Option UnderWay) (vs' : List Value) → types ex1 ≡ added C.slots → exactly r1 vs' ≡ Some vs' → Below → FitsOpen C l (after_of u vs') None (label (vs' ++ below) rest en kd ∷ Ls) (grown r1 e' ∷ ss)
-      settled None vs' room x hb = arrived (passes C rest) C l ex1 r1 (label below rest en kd) Ls e' ss vs' refl room x hb
-      settled (Some u) vs' room x hb =
-          as_open C l (after_of (Some u) vs') (label (vs' ++ below) rest en kd) Ls (grown r1 e') ss (settle C l ex1 r1 (label below rest en kd) Ls e' ss vs' room x hb)
+      settled : (u : Option UnderWay) (vs' : List Value) (n : ℕ) → types ex1 ≡ added C.slots → exactly r1 vs' ≡ Some vs' → HasLength C ex1 n → Below → FitsOpen C l (after_of u vs') (Runs n) (label (vs' ++ below) rest en kd ∷ Ls) (grown r1 e' ∷ ss)
+      settled None vs' n room x has hb = arrived (passes C rest) C l ex1 n r1 (label below rest en kd) Ls e' ss vs' refl room x has hb
+      settled (Some u) vs' n room x has hb =
+          as_open C l (after_of (Some u) vs') n (label (vs' ++ below) rest en kd) Ls (grown r1 e') ss (has_unless false C ex1 n r1 es1 vs' hb.1 has) (settle C l ex1 r1 (label below rest en kd) Ls e' ss vs' room x hb)
 
       -- where the target stands when the function has given its results
       come_back : (g' : World) (vs' : List Value) (t : Config) → types ex1 ≡ types ex → NoKind C ex1 others → Below → WorldFits M gl g' → exactly r1 vs' ≡ Some vs' → (q : ℕ) → q ≤ 2 * C.slots + 40 → To M' 1 q t (st Y (l ++ ex1) (vs' ++ lies_under others) k1 (flagged M g' (values.I32 0)) co) → Comes M M' E gl W t (next (config (frame ix r cl l (label (vs' ++ below) rest en kd ∷ Ls) ∷ Fs) g' co))
@@ -303,15 +304,20 @@ module _ (M M' : Engine) (E : ℕ) (gl : List ValType) (W : Wrap) (S : Stands M 
       come_back g' vs' t same nk hb wf' x q le pre =
           let room1 = same ∙ f.room in
           let pl = grown_fits C r1 es1 ex1 room1 hb.1 in
-          let hs = settled others vs' room1 x hb in
+          let m = any_length C ex1 room1 in
+          let here = label (vs' ++ below) rest en kd in
+          let hs = settled others vs' m.0 room1 x m.1 hb in
           let g1 = flagged M g' (values.I32 0) in
           let ts = types_unless (pass_of others) r1 (λ t. slot C.slots t (length es1)) vs' ex1 pl x ∙ same in
           let ex2 = marks dq others (after_of others vs') in
           let tm = types_marks dq others (after_of others vs') (ts ∙ f.room) ∙ ts in
-          let hm = fits_marks dq others (after_of others vs') (label (vs' ++ below) rest en kd) Ls (grown r1 e') ss (room_height C (grown r1 e' ++ joined ss) rest hs.2) hs in
-          let go : To M' 1 (3 * C.slots + 58) t (st X (l ++ ex2) (vs' ++ below) goes_on g1 co) = weaken M' (seq M' pre (behind others nk dq)) (omega arith) (omega (arith, le)) in (
-            wit C ex2 (grown r1 e' ∷ ss) ∷ ws,
-            (wf', (refit l (label (vs' ++ below) rest en kd ∷ Ls) ex2 (grown r1 e' ∷ ss) None cl f refl tm hm, fs)),
+          let lowg = room_height C (grown r1 e' ++ joined ss) rest hs.2 in
+          let hm = fits_marks dq others (after_of others vs') m.0 here Ls (grown r1 e') ss lowg hs in
+          let ex3 = remeasured (measured C) C (told_length g'.memory) ex2 in
+          let h3 = open_told C l ex2 m.0 (told_length g'.memory) here Ls (grown r1 e') ss (tm ∙ f.room) lowg hm in
+          let go : To M' 1 (3 * C.slots + 62) t (st X (l ++ ex3) (vs' ++ below) goes_on g1 co) = weaken M' (seq M' pre (behind others nk dq)) (omega arith) (omega (arith, le)) in (
+            wit C ex3 (grown r1 e' ∷ ss) ∷ ws,
+            (wf', (refit l (here ∷ Ls) ex3 (grown r1 e' ∷ ss) (running g') cl f refl (types_told (measured C) C (told_length g'.memory) ex2 (tm ∙ f.room) ∙ tm) h3, fs)),
             rw (← grown-append r1 e' (joined ss)) (weaken M' go (omega arith) (omega (arith, f.small))),
           )
         where
@@ -324,15 +330,21 @@ module _ (M M' : Engine) (E : ℕ) (gl : List ValType) (W : Wrap) (S : Stands M 
           least' : HasLeast C.source.memories g'.memory
           least' = subst (λ z. HasLeast z.memories g'.memory) (sym f.funcs) wf'.least
 
+          n' : ℕ
+          n' = told_length g'.memory
+
+          room_of : (u : Option UnderWay) → types (after_of u vs') ≡ added C.slots
+          room_of u = types_unless (pass_of u) r1 (λ t. slot C.slots t (length es1)) vs' ex1 (grown_fits C r1 es1 ex1 (same ∙ f.room) hb.1) x ∙ same ∙ f.room
+
           -- behind a direct call
           kept_here : (k : Nodes) → To M' 0 1 (st X (l ++ ex1) (vs' ++ below) (keep (passes C rest) C (option_map Spilled r1) es1 k) (flagged M g' (values.I32 0)) co) (st X (l ++ after_of None vs') (vs' ++ below) k (flagged M g' (values.I32 0)) co)
           kept_here k = kept_unless M' C l size (passes C rest) ex1 r1 es1 vs' below k (grown_fits C r1 es1 ex1 (same ∙ f.room) hb.1) x
 
-          through : (u : UnderWay) → NoKind C ex1 (Some u) → To M' 0 (C.slots + 18) (st (Y_of (Some u)) (l ++ ex1) (vs' ++ []) (store C r1 es1 stop) (flagged M g' (values.I32 0)) co) (st X (l ++ (after_of (Some u) vs')) (vs' ++ below) goes_on (flagged M g' (values.I32 0)) co)
+          through : (u : UnderWay) → NoKind C ex1 (Some u) → To M' 0 (C.slots + 20) (st (Y_of (Some u)) (l ++ ex1) (vs' ++ []) (store C r1 es1 stop) (flagged M g' (values.I32 0)) co) (st X (l ++ remeasured (measured C) C n' (after_of (Some u) vs')) (vs' ++ below) goes_on (flagged M g' (values.I32 0)) co)
           through u nk =
               let kd0 : slice_get (after_of (Some u) vs') (kind_at C) ≡ Some (values.I32 0) = stored_other r1 (λ t. slot C.slots t (length es1)) vs' ex1 (kind_at C) (λ t. kind_no_slot C (length es1) t low) ∙ nk.0 in
               let back = reload C r1 es1 goes_on in
-              let kn = renew C.source back in
+              let kn = renew_both C back in
               let kr = drops (length u.taken) kn in
               let K = test_both C ls es1 o u.others kr in
               let g1 = flagged M g' (values.I32 0) in
@@ -342,19 +354,22 @@ module _ (M M' : Engine) (E : ℕ) (gl : List ValType) (W : Wrap) (S : Stands M 
               let s2 : To M' 1 1 (st (armed X K all_) (l ++ (after_of (Some u) vs')) [] stop g1 co) (st X (l ++ (after_of (Some u) vs')) all_ K g1 co) = one_step M' _ _ refl in
               let s3 = both_to M M' E gl W C X l (after_of (Some u) vs') all_ g' co ls es1 o u.others kr 0 0 0 size kd0 fl' refl in
               let s4 : To M' (length u.taken) (length u.taken) (st X (l ++ (after_of (Some u) vs')) all_ kr g1 co) (st X (l ++ (after_of (Some u) vs')) below kn g1 co) = drops_to M' (length u.taken) all_ u.taken below kn (cut_front u.taken below) in
-              let s4b : To M' 0 7 (st X (l ++ (after_of (Some u) vs')) below kn g1 co) (st X (l ++ (after_of (Some u) vs')) below back g1 co) = renew_to M' M C.source X (l ++ (after_of (Some u) vs')) below back g' co (values.I32 0) fl' C.source.memories least' wf'.memory in
-              let s5 : To M' 0 1 (st X (l ++ (after_of (Some u) vs')) below back g1 co) (st X (l ++ (after_of (Some u) vs')) (vs' ++ below) goes_on g1 co) = reload_to M' C l size ex1 r1 es1 vs' below goes_on pl x in
+              let exn = remeasured (measured C) C n' (after_of (Some u) vs') in
+              let s4b : To M' 0 9 (st X (l ++ (after_of (Some u) vs')) below kn g1 co) (st X (l ++ exn) below back g1 co) = renew_both_to M' M C X l (after_of (Some u) vs') below back g' co (values.I32 0) size (room_of (Some u)) fl' least' wf'.memory in
+              let s5 : To M' 0 1 (st X (l ++ exn) below back g1 co) (st X (l ++ exn) (vs' ++ below) goes_on g1 co) = reload_told M' C l size (measured C) n' ex1 r1 es1 vs' below goes_on hb.1 pl x in
               let alone : vs' ++ [] ≡ vs' = append-nil vs' in
               rw alone (weaken M' (seq M' s1 (seq M' s2 (seq M' s3 (seq M' (if_zero_to M') (seq M' s4 (seq M' s4b s5)))))) (omega arith) (omega (arith, nk.1)))
 
-          behind : (under : Option UnderWay) → NoKind C ex1 under → (q : Bool) → To M' 0 (C.slots + 18) (st (Y_of under) (l ++ ex1) (vs' ++ lies_under under) (k1_of q under) (flagged M g' (values.I32 0)) co) (st X (l ++ marks q under (after_of under vs')) (vs' ++ below) goes_on (flagged M g' (values.I32 0)) co)
+          behind : (under : Option UnderWay) → NoKind C ex1 under → (q : Bool) → To M' 0 (C.slots + 20) (st (Y_of under) (l ++ ex1) (vs' ++ lies_under under) (k1_of q under) (flagged M g' (values.I32 0)) co) (st X (l ++ remeasured (measured C) C n' (marks q under (after_of under vs'))) (vs' ++ below) goes_on (flagged M g' (values.I32 0)) co)
           behind None nk true =
-              let kept = keep (passes C rest) C (option_map Spilled r1) es1 goes_on in
-              let g1 = flagged M g' (values.I32 0) in
-              let s1 : To M' 0 7 (st X (l ++ ex1) (vs' ++ below) (renew C.source kept) g1 co) (st X (l ++ ex1) (vs' ++ below) kept g1 co) = renew_to M' M C.source X (l ++ ex1) (vs' ++ below) kept g' co (values.I32 0) fl' C.source.memories least' wf'.memory in
-              weaken M' (seq M' s1 (kept_here goes_on)) (omega arith) (omega arith)
+              let s1 = renew_both_to M' M C X l (after_of None vs') (vs' ++ below) goes_on g' co (values.I32 0) size (room_of None) fl' least' wf'.memory in
+              weaken M' (seq M' (kept_here (renew_both C goes_on)) s1) (omega arith) (omega arith)
           behind None nk false =
-              weaken M' (seq M' (kept_here (test_flag C ls es1 o goes_on)) (flag_down M M' E gl W C X l (after_of None vs') (vs' ++ below) g' co ls es1 o goes_on size (types_unless (passes C rest) r1 (λ t. slot C.slots t (length es1)) vs' ex1 (grown_fits C r1 es1 ex1 (same ∙ f.room) hb.1) x ∙ same ∙ f.room) fl')) (omega arith) (omega arith)
+              let ex2 = marks false None (after_of None vs') in
+              let km = measure (measured C) C goes_on in
+              let s1 = flag_down M M' E gl W C X l (after_of None vs') (vs' ++ below) g' co ls es1 o km size (room_of None) fl' in
+              let s2 = measure_to M' M C X l ex2 (vs' ++ below) goes_on g' co (values.I32 0) size (types_marks false None (after_of None vs') (room_of None) ∙ room_of None) fl' (measured C) in
+              weaken M' (seq M' (kept_here (test_flag C ls es1 o km)) (seq M' s1 s2)) (omega arith) (omega arith)
           behind (Some u) nk false = through u nk
           behind (Some u) nk true = through u nk
 
@@ -407,12 +422,16 @@ module _ (M M' : Engine) (E : ℕ) (gl : List ValType) (W : Wrap) (S : Stands M 
         let locals : args ++ zeros (declared_locals k.new.groups) ≡ (args ++ zeros (declared_locals b.groups)) ++ ex' = new_locals args (declared_locals k.new.groups) (declared_locals b.groups) (added k.slots) k.locals in
         let mid = config (frame (mapped M.program.module_ g') (result_of type) 0 ((args ++ zeros (declared_locals b.groups)) ++ ex') (label [] (body C0 tree.nodes) 0 (returns (result_of type)) ∷ []) ∷ stands_under Z ex1 (lies_under ex1 below e' rest (defined b tree type) vs dq others others) code) g0 co in
         let s1 : To M' 1 n t mid = rw (depth, locals) at (pre k) in
-        let s3 : To M' 0 25 mid (config (t_frame now (entered g' b tree type args) (wit C' ex' ([] ∷ [])) ∷ stands_under Z ex1 (lies_under ex1 below e' rest (defined b tree type) vs dq others others) code) g0 co) = into_body M' (mapped M.program.module_ g') (result_of type) ((args ++ zeros (declared_locals b.groups)) ++ ex') (stands_under Z ex1 (lies_under ex1 below e' rest (defined b tree type) vs dq others others) code) g0 co C' tree.nodes few_ in
-        let callee : FitsFrame M E gl None (entered g' b tree type args) (wit C' ex' ([] ∷ [])) =
-        record { size = types-locals args type.params (declared_locals b.groups) ty; room = zero_types (added k.slots); idx = refl; result = refl; funcs = refl; base = refl; helpers = refl; flag = ap global_types (sym f.funcs) ∙ f.flag; small = k.small; exposed = ap (λ q. exposed_in M.program.module_.memories (nodes_of q)) (sym at); narrow = k.narrow; labels = (loosened C' (passes C' tree.nodes) (args ++ zeros (declared_locals b.groups)) ex' [] [] [] tt, tt, room_landed C0 os (landings_from C1 [] tree.nodes []) [] tree.nodes k.room, refl, tt); no_kind = tt } in (
-          wit C' ex' ([] ∷ []) ∷ wit_under C ex1 (e' ∷ ss) others ∷ ws,
-          (wf, (callee, (refit_under l (label below rest en kd ∷ Ls) ex1 (e' ∷ ss) others (Some (result_of type)) o f refl same hb nk, fs))),
-          subst (λ z. To M' 1 E t (config (t_frame now (entered g' b tree type args) (wit C' ex' ([] ∷ [])) ∷ z) g0 co)) (frames_under ex1 below e' rest b tree type vs dq others df) (weaken M' (seq M' s1 s3) (omega arith) (omega (arith, le, f.small))),
+        let n = told_length g.memory in
+        let exn = remeasured (measured C') C' n ex' in
+        let size' : length C'.locals ≡ length (args ++ zeros (declared_locals b.groups)) = len_of (args ++ zeros (declared_locals b.groups)) C'.locals (types-locals args type.params (declared_locals b.groups) ty) in
+        let flag' : global_types C'.source ≡ gl = ap global_types (sym f.funcs) ∙ f.flag in
+        let s3 : To M' 0 27 mid (config (t_frame now (entered g' b tree type args) (wit C' exn ([] ∷ [])) ∷ stands_under Z ex1 (lies_under ex1 below e' rest (defined b tree type) vs dq others others) code) g0 co) = into_function M' M (mapped M.program.module_ g') (result_of type) (stands_under Z ex1 (lies_under ex1 below e' rest (defined b tree type) vs dq others others) code) g co C' (args ++ zeros (declared_locals b.groups)) ex' tree.nodes size' (zero_types (added k.slots)) (flag_len C' g (wf.globals ∙ sym flag')) few_ in
+        let callee : FitsFrame M E gl (running g) (entered g' b tree type args) (wit C' exn ([] ∷ [])) =
+        record { size = types-locals args type.params (declared_locals b.groups) ty; room = types_told (measured C') C' n ex' (zero_types (added k.slots)) ∙ zero_types (added k.slots); idx = refl; result = refl; funcs = refl; base = refl; helpers = refl; flag = flag'; small = k.small; exposed = ap (λ q. exposed_in M.program.module_.memories (nodes_of q)) (sym at); narrow = k.narrow; labels = (loosened C' (passes C' tree.nodes) (args ++ zeros (declared_locals b.groups)) exn [] [] [] tt, has_told C' n ex' (zero_types (added k.slots)), room_landed C0 os (landings_from C1 [] tree.nodes []) [] tree.nodes k.room, refl, tt); no_kind = tt } in (
+          wit C' exn ([] ∷ []) ∷ wit_under C ex1 (e' ∷ ss) others ∷ ws,
+          (wf, (callee, (refit_under l (label below rest en kd ∷ Ls) ex1 (e' ∷ ss) others (Waits (result_of type)) o f refl same hb nk, fs))),
+          subst (λ z. To M' 1 E t (config (t_frame now (entered g' b tree type args) (wit C' exn ([] ∷ [])) ∷ z) g0 co)) (frames_under ex1 below e' rest b tree type vs dq others df) (weaken M' (seq M' s1 s3) (omega arith) (omega (arith, le, f.small))),
         )
 
     pub called : (ex1 below : List Value) (e' : List Place) (rest : Nodes) (fn : Function) (vs : List Value) (dq : Bool) (others : Option UnderWay) (g' : ℕ) (stk : List Value) (nd : Nodes) (t T : Config) (n : ℕ) (q : Bool) (args : List Value) → function_at M.program g' ≡ Some fn → DirectFits fn dq others → cut (length (function_type fn).params) args ≡ parts vs (lies_under ex1 below e' rest fn vs dq others others) → types ex1 ≡ types ex → NoKind C ex1 others → Below ex1 below e' rest fn vs dq others → n ≤ 2 * C.slots + 35 → same_types (types (reverse vs)) (function_type fn).params ≡ q → To M' 0 n t T → step M' T ≡ Calling ex1 below e' rest fn vs dq others g' args stk nd → Comes M M' E gl W t (applied_if M q fn g' (reverse vs) below o rest FF LL Ls Fs g co)
@@ -439,7 +458,7 @@ module _ (M M' : Engine) (E : ℕ) (gl : List ValType) (W : Wrap) (S : Stands M 
 
   -- ---- a direct call
 
-  module _ (C : Ctx) (ex : List Value) (e : List Place) (ss : List (List Place)) (ws : List Wit) (ix cl : ℕ) (r : Option ValType) (l ops : List Value) (en : ℕ) (kd : Kind) (Ls : List Label) (Fs : List Frame) (g : World) (co : List CollectorCall) (at g' : ℕ) (rest : Nodes) (f : FitsFrame M E gl None (frame ix r cl l (label ops (jump at (Call g') rest) en kd ∷ Ls)) (wit C ex (e ∷ ss))) (fs : FitsFrames M E gl W.result r Fs ws) (wf : WorldFits M gl g) where
+  module _ (C : Ctx) (ex : List Value) (e : List Place) (ss : List (List Place)) (ws : List Wit) (ix cl : ℕ) (r : Option ValType) (l ops : List Value) (en : ℕ) (kd : Kind) (Ls : List Label) (Fs : List Frame) (g : World) (co : List CollectorCall) (at g' : ℕ) (rest : Nodes) (f : FitsFrame M E gl (running g) (frame ix r cl l (label ops (jump at (Call g') rest) en kd ∷ Ls)) (wit C ex (e ∷ ss))) (fs : FitsFrames M E gl W.result r Fs ws) (wf : WorldFits M gl g) where
     abbrev FD : Frame
     FD = frame ix r cl l (label ops (jump at (Call g') rest) en kd ∷ Ls)
 
@@ -544,7 +563,7 @@ module _ (M M' : Engine) (t : ℕ) (k : HelperLinked M M' t) where
 -- ---- an indirect call
 
 module _ (M M' : Engine) (E : ℕ) (gl : List ValType) (W : Wrap) (S : Stands M M' E gl) where
-  module _ (C : Ctx) (ex : List Value) (e1 : Place) (e : List Place) (ss : List (List Place)) (ws : List Wit) (ix cl : ℕ) (r : Option ValType) (l : List Value) (n : ℕ) (ops : List Value) (en : ℕ) (kd : Kind) (Ls : List Label) (Fs : List Frame) (g : World) (co : List CollectorCall) (at t : ℕ) (rest : Nodes) (f : FitsFrame M E gl None (frame ix r cl l (label (values.I32 n ∷ ops) (jump at (CallIndirect t) rest) en kd ∷ Ls)) (wit C ex ((e1 ∷ e) ∷ ss))) (fs : FitsFrames M E gl W.result r Fs ws) (wf : WorldFits M gl g) (shallow : suc (length Fs) ≤ M.depth) where
+  module _ (C : Ctx) (ex : List Value) (e1 : Place) (e : List Place) (ss : List (List Place)) (ws : List Wit) (ix cl : ℕ) (r : Option ValType) (l : List Value) (n : ℕ) (ops : List Value) (en : ℕ) (kd : Kind) (Ls : List Label) (Fs : List Frame) (g : World) (co : List CollectorCall) (at t : ℕ) (rest : Nodes) (f : FitsFrame M E gl (running g) (frame ix r cl l (label (values.I32 n ∷ ops) (jump at (CallIndirect t) rest) en kd ∷ Ls)) (wit C ex ((e1 ∷ e) ∷ ss))) (fs : FitsFrames M E gl W.result r Fs ws) (wf : WorldFits M gl g) (shallow : suc (length Fs) ≤ M.depth) where
     abbrev NI : Nodes
     NI = jump at (CallIndirect t) rest
 
@@ -587,7 +606,7 @@ module _ (M M' : Engine) (E : ℕ) (gl : List ValType) (W : Wrap) (S : Stands M 
     goes_on_i type = rewrite C lsi (grown (result_of type) (left_by type)) rest
 
     abbrev dropped_i : FuncType → Nodes
-    dropped_i type = drops (suc (length type.params)) (renew C.source (reload C (result_of type) (left_by type) (goes_on_i type)))
+    dropped_i type = drops (suc (length type.params)) (renew_both C (reload C (result_of type) (left_by type) (goes_on_i type)))
 
     abbrev behind_i : FuncType → Nodes
     behind_i type = test_both C lsi (left_by type) at (others_of type) (dropped_i type)
@@ -637,7 +656,7 @@ module _ (M M' : Engine) (E : ℕ) (gl : List ValType) (W : Wrap) (S : Stands M 
 
     pub entry_trap : (type : FuncType) (q : Option (Option ℕ)) (lbl j : ℕ) → Has t C.helpers → slice_get (first_table M.program.module_) n ≡ q → unwrap_or (option_map (entry_label M.program.module_ t) q) 1 ≡ lbl → Label_kind lbl (suc j) → Comes M M' E gl W (st XI (l ++ ex) all_i (guarded_call type) gi co) (traps (suc j) (config (FI ∷ Fs) g co))
     entry_trap type q lbl j has tq le lk =
-        let h = f.labels in
+        let h = kept_all C l ex (told_length g.memory) LI Ls (e1 ∷ e) ss refl f.labels in
         let v = values.I32 (suc j) in
         let exk = slice_set ex (kind_at C) v in
         let ty : slice_get (types ex) (kind_at C) ≡ Some I32 = rw f.room (added_kind C.slots) in
@@ -669,7 +688,7 @@ module _ (M M' : Engine) (E : ℕ) (gl : List ValType) (W : Wrap) (S : Stands M 
     pub entry_call : (type : FuncType) (g' : ℕ) (fn : Function) (u : Cut) → Has t C.helpers → RoomI type → slice_get M.program.module_.types t ≡ Some type → slice_get g.table n ≡ Some (Some g') → function_at M.program g' ≡ Some fn → function_type fn ≡ type → unwrap_or (option_map (entry_label M.program.module_ t) (Some (Some g'))) 1 ≡ 0 → cut (length (function_type fn).params) ops ≡ u → Comes M M' E gl W (st XI (l ++ ex) all_i (guarded_call type) gi co) (calls_on M fn g' u at rest FI LI Ls Fs g co)
     entry_call type g' fn short has rm ty tq at_ same le c = tt
     entry_call type g' fn (parts vs below) has rm ty tq at_ same le c =
-        let h = f.labels in
+        let h = kept_all C l ex (told_length g.memory) LI Ls (e1 ∷ e) ss refl f.labels in
         let m = length type.params in
         let r1 = result_of (function_type fn) in
         let c' : cut m ops ≡ parts vs below = ap (λ z. cut (length z.params) ops) (sym same) ∙ c in
@@ -685,7 +704,7 @@ module _ (M M' : Engine) (E : ℕ) (gl : List ValType) (W : Wrap) (S : Stands M 
         let n1 = past (doubles C.source) C.source n in
         let uw : UnderWay = record { others = others; taken = values.I32 n ∷ vs } in
         let count : length vs ≡ m = cut_count m ops vs below c' in
-        let behind = test_both C lsi (e' ++ joined ss) at others (drops (suc (length vs)) (renew C.source (reload C r1 (e' ++ joined ss) (rewrite C lsi (grown r1 (e' ++ joined ss)) rest)))) in
+        let behind = test_both C lsi (e' ++ joined ss) at others (drops (suc (length vs)) (renew_both C (reload C r1 (e' ++ joined ss) (rewrite C lsi (grown r1 (e' ++ joined ss)) rest)))) in
         let whole : values.I32 n ∷ ops ≡ (values.I32 n ∷ vs) ++ below = ap (λ (z : List Value). values.I32 n ∷ z) (cut_whole m ops vs below c') in
         let YI = armed XI behind ((values.I32 n ∷ vs) ++ below) in
         let at_kind : slice_get (types ex) (kind_at C) ≡ Some I32 = rw f.room (added_kind C.slots) in
@@ -696,7 +715,7 @@ module _ (M M' : Engine) (E : ℕ) (gl : List ValType) (W : Wrap) (S : Stands M 
         let T = st YI (l ++ exi) (values.I32 n1 ∷ (vs ++ [])) code gi co in
         let t0 = st XI (l ++ ex) all_i (guarded_call type) gi co in
         let s0 = judged type (Some (Some g')) 0 0 has (ap (λ z. slice_get z n) (sym wf.table) ∙ tq) le (inl (refl, refl)) in
-        let conv : if_any (made type) (behind_i type) ≡ if_any (load C (suc m) (e1 ∷ esi) moved) behind = ap₂ (λ z es'. if_any (load C (suc m) (e1 ∷ esi) (past_shown (doubles C.source) C (jump 0 (CallIndirect t) (store C (result_of z) es' stop)))) (test_both C lsi es' at others (drops (suc m) (renew C.source (reload C (result_of z) es' (rewrite C lsi (grown (result_of z) es') rest)))))) (sym same) lh.1 ∙ ap (λ (z : ℕ). if_any (load C (suc m) (e1 ∷ esi) moved) (test_both C lsi (e' ++ joined ss) at others (drops (suc z) (renew C.source (reload C r1 (e' ++ joined ss) (rewrite C lsi (grown r1 (e' ++ joined ss)) rest)))))) (sym count) in
+        let conv : if_any (made type) (behind_i type) ≡ if_any (load C (suc m) (e1 ∷ esi) moved) behind = ap₂ (λ z es'. if_any (load C (suc m) (e1 ∷ esi) (past_shown (doubles C.source) C (jump 0 (CallIndirect t) (store C (result_of z) es' stop)))) (test_both C lsi es' at others (drops (suc m) (renew_both C (reload C (result_of z) es' (rewrite C lsi (grown (result_of z) es') rest)))))) (sym same) lh.1 ∙ ap (λ (z : ℕ). if_any (load C (suc m) (e1 ∷ esi) moved) (test_both C lsi (e' ++ joined ss) at others (drops (suc z) (renew_both C (reload C r1 (e' ++ joined ss) (rewrite C lsi (grown r1 (e' ++ joined ss)) rest)))))) (sym count) in
         let s1 : To M' 3 3 (st XI (l ++ ex) (values.I32 0 ∷ all_i) (weighed type) gi co) (st XI (l ++ exi) (values.I32 1 ∷ all_i) (if_any (load C (suc m) (e1 ∷ esi) moved) behind) gi co) = subst (λ z. To M' 3 3 (st XI (l ++ ex) (values.I32 0 ∷ all_i) (weighed type) gi co) (st XI (l ++ exi) (values.I32 1 ∷ all_i) z gi co)) conv (weighed_to type 0) in
         let s1b : To M' 1 1 (st XI (l ++ exi) (values.I32 1 ∷ all_i) (if_any (load C (suc m) (e1 ∷ esi) moved) behind) gi co) (st YI (l ++ exi) [] (load C (suc m) (e1 ∷ esi) moved) gi co) = subst (λ (z : List Value). To M' 1 1 (st XI (l ++ exi) (values.I32 1 ∷ z) (if_any (load C (suc m) (e1 ∷ esi) moved) behind) gi co) (st YI (l ++ exi) [] (load C (suc m) (e1 ∷ esi) moved) gi co)) (sym whole) (one_step M' _ _ refl) in
         let cu : cut (suc m) (values.I32 n ∷ ops) ≡ parts (values.I32 n ∷ vs) below = ap (one_more (values.I32 n)) c' in

@@ -11,11 +11,11 @@ use Rattle.wasm_syntax.specs.Tree.{Nodes, basic}
 use Rattle.wasm_syntax.specs.Host.{World}
 use Rattle.wasm_syntax.specs.declared.host.CollectorCall.{CollectorCall}
 use Rattle.wasm_syntax.specs.Machine.{Label, Engine}
-use Rattle.rewrite_bodies.specs.calls.Slots.{Place, Spilled, Known, Copied, Ctx, slot, added, pushed, uncopied, without, under, freed, freed_at, local_written}
+use Rattle.rewrite_bodies.specs.calls.Slots.{Place, Spilled, Known, Copied, Ctx, slot, added, pushed, uncopied, without, under, freed, freed_at, local_written, length_at}
 use Rattle.rewrite_bodies.specs.calls.Pieces.{set, spill_one, spill}
 use Rattle.rewrite_bodies.specs.calls.Agreement.{One, Holds, awaits, pending, joined, FitsLabels}
 use Rattle.rewrite_bodies.specs.calls.Steps.{To, Shell, st}
-use Rattle.rewrite_bodies.proofs.Run.{get_own, slice_get-put_same, slice_get-put_other, types-slice_set, added_at, apart, still, weaken, seq, get_to, added_set}
+use Rattle.rewrite_bodies.proofs.Run.{get_own, slice_get-put_same, slice_get-put_other, types-slice_set, added_at, apart, still, weaken, seq, get_to, added_set, length_no_slot}
 
 -- ---- places without copies
 
@@ -104,13 +104,18 @@ pushed_append (Some q) e js = refl
 pub without_length : (these : ℕ → Bool) (es : List Place) → length (without these es) ≡ length es
 without_length these es = length-map es (uncopied these)
 
--- ---- added locals whose slots are the same but at these heights
+-- ---- added locals whose slots are the same but at these heights, and whose length of the memory is the same
 
 abbrev pub Within : Ctx → ℕ → ℕ → List Value → List Value → Type 0
-Within C low high ex ex' = (t : ValType) (h : ℕ) → (h < low) ⊎ ((high ≤ h) × (h ≤ C.slots)) → slice_get ex' (slot C.slots t h) ≡ slice_get ex (slot C.slots t h)
+Within C low high ex ex' =
+    ((t : ValType) (h : ℕ) → (h < low) ⊎ ((high ≤ h) × (h ≤ C.slots)) → slice_get ex' (slot C.slots t h) ≡ slice_get ex (slot C.slots t h))
+    × (slice_get ex' (length_at C) ≡ slice_get ex (length_at C))
+
+none_within : (C : Ctx) (low high : ℕ) (ex : List Value) → Within C low high ex ex
+none_within C low high ex = ((λ t k d. refl), refl)
 
 one_within : (C : Ctx) (l ex ex' : List Value) (low high h : ℕ) (e : Place) (v : Value) → Within C low high ex ex' → (h < low) ⊎ ((high ≤ h) × (h ≤ C.slots)) → One C l ex h e v → One C l ex' h e v
-one_within C l ex ex' low high h (Spilled t) v w d o = (w t h d ∙ o.0, o.1)
+one_within C l ex ex' low high h (Spilled t) v w d o = (w.0 t h d ∙ o.0, o.1)
 one_within C l ex ex' low high h (Known u) v w d o = o
 one_within C l ex ex' low high h (Copied t x) v w d o = o
 
@@ -141,11 +146,14 @@ module _ (M : Engine) (C : Ctx) (l : List Value) (size : length C.locals ≡ len
       (ex' : List Value) × (types ex' ≡ types ex) × Within C h (suc h) ex ex' × One C l ex' h (uncopied these e) v × To M 0 2 (st X (l ++ ex) s (spill_one C these e h k) g co) (st X (l ++ ex') s k g co)
 
   put_within : (ex : List Value) (t : ValType) (h : ℕ) (v : Value) → h ≤ C.slots → Within C h (suc h) ex (slice_set ex (slot C.slots t h) v)
-  put_within ex t h v le u k (inl lt) = slice_get-put_other ex (slot C.slots u k) (slot C.slots t h) v (apart C u t k h lt le)
-  put_within ex t h v le u k (inr d) = slice_get-put_other ex (slot C.slots u k) (slot C.slots t h) v (λ e. apart C t u h k d.0 d.1 (sym e))
+  put_within ex t h v le = (slots_stay, slice_get-put_other ex (length_at C) (slot C.slots t h) v (length_no_slot C h t le))
+    where
+      slots_stay : (u : ValType) (k : ℕ) → (k < h) ⊎ ((suc h ≤ k) × (k ≤ C.slots)) → slice_get (slice_set ex (slot C.slots t h) v) (slot C.slots u k) ≡ slice_get ex (slot C.slots u k)
+      slots_stay u k (inl lt) = slice_get-put_other ex (slot C.slots u k) (slot C.slots t h) v (apart C u t k h lt le)
+      slots_stay u k (inr d) = slice_get-put_other ex (slot C.slots u k) (slot C.slots t h) v (λ e. apart C t u h k d.0 d.1 (sym e))
 
   copy_to : (X : Shell) (s : List Value) (g : World) (co : List CollectorCall) (ex : List Value) (these : ℕ → Bool) (t : ValType) (x h : ℕ) (v : Value) (k : Nodes) (q : Bool) → these x ≡ q → types ex ≡ added C.slots → h ≤ C.slots → One C l ex h (Copied t x) v → SpilledOne X s g co ex these (Copied t x) h v k
-  copy_to X s g co ex these t x h v k false e ty le o = rw e (ex, refl, (λ t k d. refl), o, weaken M (still M _) (omega arith) (omega arith))
+  copy_to X s g co ex these t x h v k false e ty le o = rw e (ex, refl, none_within C h (suc h) ex, o, weaken M (still M _) (omega arith) (omega arith))
   copy_to X s g co ex these t x h v k true e ty le o =
       let at : slice_get (types ex) (slot C.slots t h) ≡ Some t = rw ty (added_at C.slots h t le) in
       let s1 : To M 1 1 (st X (l ++ ex) s (basic 0 (LocalGet x) (set C (slot C.slots t h) k)) g co) (st X (l ++ ex) (v ∷ s) (set C (slot C.slots t h) k) g co) = get_to M x v (get_own l ex x v o.0) in
@@ -153,14 +161,14 @@ module _ (M : Engine) (C : Ctx) (l : List Value) (size : length C.locals ≡ len
       rw e (slice_set ex (slot C.slots t h) v, types-slice_set ex (slot C.slots t h) t v at o.1, put_within ex t h v le, (slice_get-put_same ex (slot C.slots t h) t v at, o.1), weaken M (seq M s1 s2) (omega arith) (omega arith))
 
   one_to : (X : Shell) (s : List Value) (g : World) (co : List CollectorCall) (ex : List Value) (these : ℕ → Bool) (e : Place) (h : ℕ) (v : Value) (k : Nodes) → types ex ≡ added C.slots → h ≤ C.slots → One C l ex h e v → SpilledOne X s g co ex these e h v k
-  one_to X s g co ex these (Spilled t) h v k ty le o = (ex, refl, (λ t k d. refl), o, weaken M (still M _) (omega arith) (omega arith))
-  one_to X s g co ex these (Known w) h v k ty le o = (ex, refl, (λ t k d. refl), o, weaken M (still M _) (omega arith) (omega arith))
+  one_to X s g co ex these (Spilled t) h v k ty le o = (ex, refl, none_within C h (suc h) ex, o, weaken M (still M _) (omega arith) (omega arith))
+  one_to X s g co ex these (Known w) h v k ty le o = (ex, refl, none_within C h (suc h) ex, o, weaken M (still M _) (omega arith) (omega arith))
   one_to X s g co ex these (Copied t x) h v k ty le o = copy_to X s g co ex these t x h v k (these x) refl ty le o
 
   -- those of the innermost label, over places without copies
   pub spill_to : (X : Shell) (s : List Value) (g : World) (co : List CollectorCall) (ex : List Value) (these : ℕ → Bool) (js e : List Place) (ops : List Value) (k : Nodes) → types ex ≡ added C.slots → length (e ++ js) ≤ C.slots → Fixed js → Holds C l ex js ops e →
       (ex' : List Value) × (types ex' ≡ types ex) × Within C (length js) (length (e ++ js)) ex ex' × Holds C l ex' js ops (without these e) × To M 0 (2 * length e) (st X (l ++ ex) s (spill C these (e ++ js) k) g co) (st X (l ++ ex') s k g co)
-  spill_to X s g co ex these js [] [] k ty le f h = (ex, refl, (λ t k d. refl), tt, rw (fixed_spill C these js k f) (weaken M (still M _) (omega arith) (omega arith)))
+  spill_to X s g co ex these js [] [] k ty le f h = (ex, refl, none_within C (length js) (length js) ex, tt, rw (fixed_spill C these js k f) (weaken M (still M _) (omega arith) (omega arith)))
   spill_to X s g co ex these js [] (v ∷ ops) k ty le f h = absurd h
   spill_to X s g co ex these js (e ∷ es) [] k ty le f h = absurd h
   spill_to X s g co ex these js (e ∷ es) (v ∷ ops) k ty le f h =
@@ -176,7 +184,7 @@ module _ (M : Engine) (C : Ctx) (l : List Value) (size : length C.locals ≡ len
       let same : length (without these es ++ js) ≡ n = length-append (without these es) js ∙ ap (λ (z : ℕ). z + length js) (without_length these es) ∙ sym (length-append es js) in
       let o2 : One C l ex2 (length (without these es ++ js)) (uncopied these e) v = subst (λ (z : ℕ). One C l ex2 z (uncopied these e) v) (sym same) b.3 in
       let h2 : Holds C l ex2 js ops (without these es) = holds_within C l ex1 ex2 n (suc n) js (without these es) ops b.2 (omega (arith, same)) a.3 in
-      let w : Within C (length js) (suc n) ex ex2 = λ u i d. b.2 u i (wider (length js) n i lo d) ∙ a.2 u i (narrower (length js) n i d) in
+      let w : Within C (length js) (suc n) ex ex2 = ((λ u i d. b.2.0 u i (wider (length js) n i lo d) ∙ a.2.0 u i (narrower (length js) n i d)), b.2.1 ∙ a.2.1) in
       (ex2, b.1 ∙ a.1, w, (o2, h2), weaken M (seq M a.4 b.4) (omega arith) (omega arith))
     where
       wider : (m n i : ℕ) → m ≤ n → (i < m) ⊎ ((suc n ≤ i) × (i ≤ C.slots)) → (i < n) ⊎ ((suc n ≤ i) × (i ≤ C.slots))

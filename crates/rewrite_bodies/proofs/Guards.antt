@@ -5,16 +5,16 @@ use Rattle.wasm_syntax.specs.declared.value.ValType.TheVariants.{I32, I64}
 use Rattle.wasm_syntax.specs.declared.value.Value.{Value}
 use Rattle.wasm_syntax.specs.declared.value.Value.TheVariants as values
 use Rattle.wasm_syntax.specs.declared.instruction.Basic.{Basic}
-use Rattle.wasm_syntax.specs.declared.instruction.Basic.TheVariants.{Select, GlobalGet, Load, Store, Eqz, Compare, Binary, Convert, MemoryCopy, MemoryFill}
+use Rattle.wasm_syntax.specs.declared.instruction.Basic.TheVariants.{Select, Load, Store, Eqz, Compare, Binary, Convert, MemoryCopy, MemoryFill}
 use Rattle.wasm_syntax.specs.Numbers.{bits, value, number, modulo, bool_number, binary}
 use Rattle.wasm_syntax.specs.Tree.{Nodes, basic}
 use Rattle.wasm_syntax.specs.Host.{World}
 use Rattle.wasm_syntax.specs.declared.host.CollectorCall.{CollectorCall}
 use Rattle.wasm_syntax.specs.Effect.{Effect, gives, unfit, effect, takes, with_memory, address}
 use Rattle.wasm_syntax.specs.Machine.{Engine, next, parts, cut}
-use Rattle.rewrite_bodies.specs.calls.Slots.{Place, Ctx}
+use Rattle.rewrite_bodies.specs.calls.Slots.{Place, Ctx, length_at}
 use Rattle.rewrite_bodies.specs.calls.Pieces.{const, fetch}
-use Rattle.rewrite_bodies.specs.calls.Guards.{less_word, length_of, get_length, beyond_word, least, minus_one, guard_zero, overflow_test, guard_signed, out_test, guard_memory, guard, divides, can_trap, past_end, range_test, guard_copy, guard_fill, kind_signed, kind}
+use Rattle.rewrite_bodies.specs.calls.Guards.{less_word, get_length, beyond_word, least, minus_one, guard_zero, overflow_test, guard_signed, out_test, guard_memory, guard, divides, can_trap, past_end, range_test, guard_copy, guard_fill, kind_signed, kind}
 use Rattle.linear_memory.specs.Memory.{Memory, to_bytes}
 use Rattle.wasm_syntax.specs.Access.{load_type, load_bits, store_type, store_bits}
 use Rattle.linear_memory.specs.Memory as memories
@@ -27,7 +27,7 @@ use Rattle.std.proofs.lemmas.List.{length-replicate}
 use Rattle.std.proofs.Math.Nat.{mod-lt, mod-eq_of_lt, add-mod_left}
 use Rattle.rewrite_bodies.specs.calls.Agreement.{One, Holds, MemoryFits, told_length, TellsLength}
 use Rattle.rewrite_bodies.specs.calls.Steps.{To, Shell, st}
-use Rattle.rewrite_bodies.proofs.Run.{still, one_step, seq, weaken, push_to, fetch_to}
+use Rattle.rewrite_bodies.proofs.Run.{still, one_step, seq, weaken, push_to, added_get, fetch_to}
 use Rattle.std.proofs.lemmas.Bool.Decides.{leb_tells}
 use Rattle.std.proofs.lemmas.Bool.{cases_lt, eqb-true}
 use Rattle.int_ops.specs.declared.operators.Compare.TheVariants.{Eq, GtU, GtS}
@@ -39,7 +39,6 @@ use Rattle.wasm_syntax.specs.declared.instruction.Store.TheVariants as stores
 use Rattle.int_ops.specs.declared.operators.Narrow32.TheVariants as narrow32
 use Rattle.int_ops.specs.declared.operators.Narrow64.TheVariants as narrow64
 use Rattle.rewrite_bodies.specs.inner.Promises.{kind_of, verdict}
-use Rattle.rewrite_bodies.proofs.Parts.{step_plain}
 use Rattle.int_ops.specs.Integers as integers
 use Rattle.int_ops.specs.Integers.{binary as int_binary, compare as int_compare, div_s, rem_s}
 use Rattle.rewrite_bodies.specs.calls.Offsets.{SmallOffset}
@@ -284,25 +283,25 @@ module _ (M : Engine) (C : Ctx) (l : List Value) (size : length C.locals ≡ len
       past : (m n : ℕ) → nat_le m n ≡ false → n < m
       past m n h = elim (leb_tells m n) [ inl t ↦ absurd (true≢false (sym t.0 ∙ h)) | inr f ↦ f.1 ]
 
-  -- the global tells the length of this memory
-  abbrev Told : World → Memory → Type 0
-  Told g m = slice_get g.globals (length_of C.source) ≡ Some (values.I64 (less_word (length m.bytes)))
+  -- the local tells the length of this memory
+  abbrev Told : List Value → Memory → Type 0
+  Told ex m = slice_get ex (length_at C) ≡ Some (values.I64 (less_word (length m.bytes)))
 
-  get_length_to : (X : Shell) (k : Nodes) (g : World) (m : Memory) (co : List CollectorCall) (tl base : List Value) → Told g m → To M 1 1 (st X tl base (get_length C.source k) g co) (st X tl (values.I64 (less_word (length m.bytes)) ∷ base) k g co)
-  get_length_to X k g m co tl base gm = step_plain M (GlobalGet (length_of C.source)) [] base tl g (values.I64 (less_word (length m.bytes)) ∷ []) (values.I64 (less_word (length m.bytes)) ∷ base) refl (rw gm refl) refl
+  get_length_to : (X : Shell) (k : Nodes) (g : World) (m : Memory) (co : List CollectorCall) (ex base : List Value) → Told ex m → To M 1 1 (st X (l ++ ex) base (get_length C k) g co) (st X (l ++ ex) (values.I64 (less_word (length m.bytes)) ∷ base) k g co)
+  get_length_to X k g m co ex base gm = added_get M C l size ex (length_at C) (values.I64 (less_word (length m.bytes))) gm
 
   -- a number against the length of the memory
-  past_end_to : (X : Shell) (k : Nodes) (g : World) (m : Memory) (co : List CollectorCall) (tl base : List Value) (s : ℕ) → Told g m → length m.bytes < 2 ^ 32 → To M 4 4 (st X tl (values.I64 s ∷ base) (past_end C.source k) g co) (st X tl (values.I32 (bool_number (nat_lt (length m.bytes) s)) ∷ base) k g co)
+  past_end_to : (X : Shell) (k : Nodes) (g : World) (m : Memory) (co : List CollectorCall) (ex base : List Value) (s : ℕ) → Told ex m → length m.bytes < 2 ^ 32 → To M 4 4 (st X (l ++ ex) (values.I64 s ∷ base) (past_end C k) g co) (st X (l ++ ex) (values.I32 (bool_number (nat_lt (length m.bytes) s)) ∷ base) k g co)
   unfolding int_binary int_compare
-  past_end_to X k g m co tl base s gm few =
+  past_end_to X k g m co ex base s gm few =
       let k7 = basic 0 (Compare I64 GtU) k in
       let k6 = const (values.I64 4) (basic 0 (Binary I64 Add) k7) in
       let less = less_word (length m.bytes) in
       let again = modulo I64 (less + 4) in
-      let s4 : To M 2 2 (st X tl (values.I64 less ∷ values.I64 s ∷ base) k6 g co) (st X tl (values.I64 again ∷ values.I64 s ∷ base) k7 g co) = seq M (push_to M (values.I64 4)) (one_step M _ _ refl) in
-      let s5 : To M 1 1 (st X tl (values.I64 (length m.bytes) ∷ values.I64 s ∷ base) k7 g co) (st X tl (values.I32 (bool_number (nat_lt (length m.bytes) s)) ∷ base) k g co) = one_step M _ _ refl in
-      let s6 : To M 2 2 (st X tl (values.I64 less ∷ values.I64 s ∷ base) k6 g co) (st X tl (values.I64 (length m.bytes) ∷ values.I64 s ∷ base) k7 g co) = subst (λ z. To M 2 2 (st X tl (values.I64 less ∷ values.I64 s ∷ base) k6 g co) (st X tl (values.I64 z ∷ values.I64 s ∷ base) k7 g co)) (word_again (length m.bytes) few) s4 in
-      seq M (get_length_to X k6 g m co tl (values.I64 s ∷ base) gm) (seq M s6 s5)
+      let s4 : To M 2 2 (st X (l ++ ex) (values.I64 less ∷ values.I64 s ∷ base) k6 g co) (st X (l ++ ex) (values.I64 again ∷ values.I64 s ∷ base) k7 g co) = seq M (push_to M (values.I64 4)) (one_step M _ _ refl) in
+      let s5 : To M 1 1 (st X (l ++ ex) (values.I64 (length m.bytes) ∷ values.I64 s ∷ base) k7 g co) (st X (l ++ ex) (values.I32 (bool_number (nat_lt (length m.bytes) s)) ∷ base) k g co) = one_step M _ _ refl in
+      let s6 : To M 2 2 (st X (l ++ ex) (values.I64 less ∷ values.I64 s ∷ base) k6 g co) (st X (l ++ ex) (values.I64 (length m.bytes) ∷ values.I64 s ∷ base) k7 g co) = subst (λ z. To M 2 2 (st X (l ++ ex) (values.I64 less ∷ values.I64 s ∷ base) k6 g co) (st X (l ++ ex) (values.I64 z ∷ values.I64 s ∷ base) k7 g co)) (word_again (length m.bytes) few) s4 in
+      seq M (get_length_to X k6 g m co ex (values.I64 s ∷ base) gm) (seq M s6 s5)
 
   -- the place from which so many bytes end with the memory
   beyond_to : (X : Shell) (k : Nodes) (g : World) (m : Memory) (co : List CollectorCall) (tl base : List Value) (n : ℕ) (q : Bool) → (n == 4) ≡ q → length m.bytes < 2 ^ 32 → n < 2 ^ 32 + 64 + 1 → To M 0 2 (st X tl (values.I64 (less_word (length m.bytes)) ∷ base) (beyond_word q n k) g co) (st X tl (values.I64 (modulo I64 (length m.bytes + (2 ^ 64 - n))) ∷ base) k g co)
@@ -315,7 +314,7 @@ module _ (M : Engine) (C : Ctx) (l : List Value) (size : length C.locals ≡ len
       let to : To M 2 2 (st X tl (values.I64 less ∷ base) (beyond_word false n k) g co) (st X tl (values.I64 (modulo I64 (less + (2 ^ 64 - less_word n))) ∷ base) k g co) = seq M (push_to M (values.I64 (less_word n))) (one_step M _ _ refl) in
       subst (λ z. To M 0 2 (st X tl (values.I64 less ∷ base) (beyond_word false n k) g co) (st X tl (values.I64 z ∷ base) k g co)) (less_both (length m.bytes) n few lt) (weaken M to (omega arith) (omega arith))
 
-  guard_memory_to : (X : Shell) (k : Nodes) (g : World) (m : Memory) (co : List CollectorCall) (ex : List Value) (e : Place) (h x n o b : ℕ) (q : Bool) → One C l ex h e (values.I32 x) → Told g m → MemoryFits (Some m) → o < 2 ^ 32 → b ≤ 64 → n ≡ o + b → nat_le (address x o + b) (length m.bytes) ≡ q →
+  guard_memory_to : (X : Shell) (k : Nodes) (g : World) (m : Memory) (co : List CollectorCall) (ex : List Value) (e : Place) (h x n o b : ℕ) (q : Bool) → One C l ex h e (values.I32 x) → Told ex m → MemoryFits (Some m) → o < 2 ^ 32 → b ≤ 64 → n ≡ o + b → nat_le (address x o + b) (length m.bytes) ≡ q →
       To M 1 21 (st X (l ++ ex) sb (guard_memory C e h n k) g co) (st X (l ++ ex) (values.I32 (verdict (out_kind q)) ∷ sb) k g co)
       × ((j : ℕ) → out_kind q ≡ suc j → To M 1 5 (st X (l ++ ex) sb (const (values.I32 4) k) g co) (st X (l ++ ex) (values.I32 (suc j) ∷ sb) k g co))
   unfolding int_binary int_compare
@@ -327,11 +326,11 @@ module _ (M : Engine) (C : Ctx) (l : List Value) (size : length C.locals ≡ len
       let len : length m.bytes < 2 ^ 32 = omega (arith, mf.1, mf.2) in
       let k5 = basic 0 (Compare I64 GtS) k in
       let k4 = beyond_word (n == 4) n k5 in
-      let k3 = get_length C.source k4 in
+      let k3 = get_length C k4 in
       let from = modulo I64 (length m.bytes + (2 ^ 64 - n)) in
-      let s1 : To M 1 1 (st X tl sb (fetch C e h (out_test C.source n k)) g co) (st X tl (values.I32 x ∷ sb) (out_test C.source n k) g co) = fetch_to M C l size ex h e (values.I32 x) on in
-      let s2 : To M 1 1 (st X tl (values.I32 x ∷ sb) (out_test C.source n k) g co) (st X tl (values.I64 x' ∷ sb) k3 g co) = one_step M _ _ refl in
-      let s3 : To M 1 1 (st X tl (values.I64 x' ∷ sb) k3 g co) (st X tl (values.I64 (less_word (length m.bytes)) ∷ values.I64 x' ∷ sb) k4 g co) = get_length_to X k4 g m co tl (values.I64 x' ∷ sb) gm in
+      let s1 : To M 1 1 (st X tl sb (fetch C e h (out_test C n k)) g co) (st X tl (values.I32 x ∷ sb) (out_test C n k) g co) = fetch_to M C l size ex h e (values.I32 x) on in
+      let s2 : To M 1 1 (st X tl (values.I32 x ∷ sb) (out_test C n k) g co) (st X tl (values.I64 x' ∷ sb) k3 g co) = one_step M _ _ refl in
+      let s3 : To M 1 1 (st X tl (values.I64 x' ∷ sb) k3 g co) (st X tl (values.I64 (less_word (length m.bytes)) ∷ values.I64 x' ∷ sb) k4 g co) = get_length_to X k4 g m co ex (values.I64 x' ∷ sb) gm in
       let s4 : To M 0 2 (st X tl (values.I64 (less_word (length m.bytes)) ∷ values.I64 x' ∷ sb) k4 g co) (st X tl (values.I64 from ∷ values.I64 x' ∷ sb) k5 g co) = beyond_to X k5 g m co tl (values.I64 x' ∷ sb) n (n == 4) refl len lt in
       let passes : int_lt (integers.signed 64 from) (integers.signed 64 x') ≡ nat_lt (length m.bytes) (x' + n) = passes_end x' (length m.bytes) n low len lt in
       let cmp : bool_number (int_lt (integers.signed 64 from) (integers.signed 64 x')) ≡ verdict (out_kind q) = ap bool_number (passes ∙ not_le (address x o) b (length m.bytes) (x' + n) q (omega (arith, ne)) inside_) ∙ out_verdict q in
@@ -340,7 +339,7 @@ module _ (M : Engine) (C : Ctx) (l : List Value) (size : length C.locals ≡ len
       (weaken M (seq M s1 (seq M s2 (seq M s3 (seq M s4 s6)))) (omega arith) (omega arith), λ j z. one_kind_to X k g co tl 4 j (four_is q j z))
 
   -- a range of bytes against the length of the memory
-  range_to : (X : Shell) (k : Nodes) (g : World) (m : Memory) (co : List CollectorCall) (ex base : List Value) (a n : Place) (h hn x y : ℕ) → One C l ex h a (values.I32 x) → One C l ex hn n (values.I32 y) → Told g m → length m.bytes < 2 ^ 32 → To M 9 9 (st X (l ++ ex) base (range_test C a h n hn k) g co) (st X (l ++ ex) (values.I32 (bool_number (not (nat_le (modulo I32 x + modulo I32 y) (length m.bytes)))) ∷ base) k g co)
+  range_to : (X : Shell) (k : Nodes) (g : World) (m : Memory) (co : List CollectorCall) (ex base : List Value) (a n : Place) (h hn x y : ℕ) → One C l ex h a (values.I32 x) → One C l ex hn n (values.I32 y) → Told ex m → length m.bytes < 2 ^ 32 → To M 9 9 (st X (l ++ ex) base (range_test C a h n hn k) g co) (st X (l ++ ex) (values.I32 (bool_number (not (nat_le (modulo I32 x + modulo I32 y) (length m.bytes)))) ∷ base) k g co)
   unfolding int_binary
   range_to X k g m co ex base a n h hn x y oa on gm few =
       let tl = l ++ ex in
@@ -348,7 +347,7 @@ module _ (M : Engine) (C : Ctx) (l : List Value) (size : length C.locals ≡ len
       let y' = modulo I32 y in
       let sum : modulo I64 (x' + y') ≡ x' + y' = (let u : x % 2 ^ 32 < 2 ^ 32 = mod-lt x (omega arith) in let v : y % 2 ^ 32 < 2 ^ 32 = mod-lt y (omega arith) in mod-eq_of_lt (omega (arith, u, v))) in
       let sum64 = modulo I64 (x' + y') in
-      let k4 = past_end C.source k in
+      let k4 = past_end C k in
       let k3 = basic 0 (Binary I64 Add) k4 in
       let k2 = basic 0 (Convert ExtendU) k3 in
       let k1 = fetch C n hn k2 in
@@ -359,7 +358,7 @@ module _ (M : Engine) (C : Ctx) (l : List Value) (size : length C.locals ≡ len
       let s3 : To M 2 2 (st X tl (values.I32 y ∷ values.I64 x' ∷ base) k2 g co) (st X tl (values.I64 sum64 ∷ base) k4 g co) = seq M (one_step M _ (next (st X tl (values.I64 y' ∷ values.I64 x' ∷ base) k3 g co)) refl) (one_step M _ _ refl) in
       let q = nat_le (x' + y') (length m.bytes) in
       let cmp : nat_lt (length m.bytes) sum64 ≡ not q = not_le x' y' (length m.bytes) sum64 q sum refl in
-      let s4 : To M 4 4 (st X tl (values.I64 sum64 ∷ base) k4 g co) (st X tl (values.I32 (bool_number (not q)) ∷ base) k g co) = subst (λ z. To M 4 4 (st X tl (values.I64 sum64 ∷ base) k4 g co) (st X tl (values.I32 (bool_number z) ∷ base) k g co)) cmp (past_end_to X k g m co tl base sum64 gm few) in
+      let s4 : To M 4 4 (st X tl (values.I64 sum64 ∷ base) k4 g co) (st X tl (values.I32 (bool_number (not q)) ∷ base) k g co) = subst (λ z. To M 4 4 (st X tl (values.I64 sum64 ∷ base) k4 g co) (st X tl (values.I32 (bool_number z) ∷ base) k g co)) cmp (past_end_to X k g m co ex base sum64 gm few) in
       seq M t0 (seq M s1 (seq M s2 (seq M s3 s4)))
 
   either_to : (X : Shell) (k : Nodes) (g : World) (co : List CollectorCall) (tl : List Value) (p q : Bool) → To M 1 1 (st X tl (values.I32 (bool_number (not q)) ∷ values.I32 (bool_number (not p)) ∷ sb) (basic 0 (Binary I32 Or) k) g co) (st X tl (values.I32 (verdict (out_kind (p && q))) ∷ sb) k g co)
@@ -369,7 +368,7 @@ module _ (M : Engine) (C : Ctx) (l : List Value) (size : length C.locals ≡ len
   either_to X k g co tl false true = one_step M _ _ refl
   either_to X k g co tl false false = one_step M _ _ refl
 
-  guard_copy_to : (X : Shell) (k : Nodes) (g : World) (m : Memory) (co : List CollectorCall) (ex : List Value) (n from to : Place) (h x y z : ℕ) → One C l ex (suc (suc h)) n (values.I32 z) → One C l ex (suc h) from (values.I32 x) → One C l ex h to (values.I32 y) → Told g m → MemoryFits (Some m) →
+  guard_copy_to : (X : Shell) (k : Nodes) (g : World) (m : Memory) (co : List CollectorCall) (ex : List Value) (n from to : Place) (h x y z : ℕ) → One C l ex (suc (suc h)) n (values.I32 z) → One C l ex (suc h) from (values.I32 x) → One C l ex h to (values.I32 y) → Told ex m → MemoryFits (Some m) →
       To M 1 21 (st X (l ++ ex) sb (guard_copy C n from to h k) g co) (st X (l ++ ex) (values.I32 (verdict (out_kind (nat_le (modulo I32 x + modulo I32 z) (length m.bytes) && nat_le (modulo I32 y + modulo I32 z) (length m.bytes)))) ∷ sb) k g co)
       × ((j : ℕ) → out_kind (nat_le (modulo I32 x + modulo I32 z) (length m.bytes) && nat_le (modulo I32 y + modulo I32 z) (length m.bytes)) ≡ suc j → To M 1 5 (st X (l ++ ex) sb (const (values.I32 4) k) g co) (st X (l ++ ex) (values.I32 (suc j) ∷ sb) k g co))
   guard_copy_to X k g m co ex n from to h x y z on of ot gm mf =
@@ -383,7 +382,7 @@ module _ (M : Engine) (C : Ctx) (l : List Value) (size : length C.locals ≡ len
       let s2 = range_to X k2 g m co ex (values.I32 (bool_number (not p)) ∷ sb) to n h (suc (suc h)) y z ot on gm few in
       (weaken M (seq M s1 (seq M s2 (either_to X k g co tl p q))) (omega arith) (omega arith), λ j z. one_kind_to X k g co tl 4 j (four_is (p && q) j z))
 
-  guard_fill_to : (X : Shell) (k : Nodes) (g : World) (m : Memory) (co : List CollectorCall) (ex : List Value) (n to : Place) (h y z : ℕ) → One C l ex (suc (suc h)) n (values.I32 z) → One C l ex h to (values.I32 y) → Told g m → MemoryFits (Some m) →
+  guard_fill_to : (X : Shell) (k : Nodes) (g : World) (m : Memory) (co : List CollectorCall) (ex : List Value) (n to : Place) (h y z : ℕ) → One C l ex (suc (suc h)) n (values.I32 z) → One C l ex h to (values.I32 y) → Told ex m → MemoryFits (Some m) →
       To M 1 21 (st X (l ++ ex) sb (guard_fill C n to h k) g co) (st X (l ++ ex) (values.I32 (verdict (out_kind (nat_le (modulo I32 y + modulo I32 z) (length m.bytes)))) ∷ sb) k g co)
       × ((j : ℕ) → out_kind (nat_le (modulo I32 y + modulo I32 z) (length m.bytes)) ≡ suc j → To M 1 5 (st X (l ++ ex) sb (const (values.I32 4) k) g co) (st X (l ++ ex) (values.I32 (suc j) ∷ sb) k g co))
   guard_fill_to X k g m co ex n to h y z on ot gm mf =
@@ -421,7 +420,7 @@ module _ (M : Engine) (C : Ctx) (l : List Value) (size : length C.locals ≡ len
   store_small (stores.Part64 narrow64.Sixteen) = omega arith
   store_small (stores.Part64 narrow64.ThirtyTwo) = omega arith
 
-  guard_load : (X : Shell) (k : Nodes) (g gg : World) (co : List CollectorCall) (ex : List Value) (t : Load_) (align o : ℕ) (e : Place) (v : Value) (es : List Place) → TellsLength C g gg.memory → MemoryFits gg.memory → o < 2 ^ 32 → One C l ex (length es) e v → effect (Load t align o) gg l (v ∷ []) ≢ unfit → Guards X k g co ex (e ∷ es) (Load t align o) (kind_of (effect (Load t align o) gg l (v ∷ [])))
+  guard_load : (X : Shell) (k : Nodes) (g gg : World) (co : List CollectorCall) (ex : List Value) (t : Load_) (align o : ℕ) (e : Place) (v : Value) (es : List Place) → TellsLength C ex gg.memory → MemoryFits gg.memory → o < 2 ^ 32 → One C l ex (length es) e v → effect (Load t align o) gg l (v ∷ []) ≢ unfit → Guards X k g co ex (e ∷ es) (Load t align o) (kind_of (effect (Load t align o) gg l (v ∷ [])))
   guard_load X k g gg co ex t align o e (values.I64 x) es gm mf lo on nw = absurd (nw refl)
   guard_load X k g gg co ex t align o e (values.I32 x) es gm mf lo on nw = by_memory gg.memory nw refl
     where
@@ -432,7 +431,7 @@ module _ (M : Engine) (C : Ctx) (l : List Value) (size : length C.locals ≡ len
           rw (load_kind m (address x o) b (λ n. gives gg l (value (load_type t) (accesses.loaded t n) ∷ [])) (nat_le (address x o + b) (length m.bytes)) (λ x. refl))
           (guard_memory_to X k g m co ex e (length es) x (o + b) o b (nat_le (address x o + b) (length m.bytes)) on (gm ∙ ap (λ o. Some (values.I64 (told_length o))) r) (subst MemoryFits r mf) lo (load_small t) refl refl)
 
-  guard_store : (X : Shell) (k : Nodes) (g gg : World) (co : List CollectorCall) (ex : List Value) (t : Store_) (align o : ℕ) (e e' : Place) (w v : Value) (es : List Place) → TellsLength C g gg.memory → MemoryFits gg.memory → o < 2 ^ 32 → One C l ex (length es) e' v → effect (Store t align o) gg l (w ∷ v ∷ []) ≢ unfit → Guards X k g co ex (e ∷ e' ∷ es) (Store t align o) (kind_of (effect (Store t align o) gg l (w ∷ v ∷ [])))
+  guard_store : (X : Shell) (k : Nodes) (g gg : World) (co : List CollectorCall) (ex : List Value) (t : Store_) (align o : ℕ) (e e' : Place) (w v : Value) (es : List Place) → TellsLength C ex gg.memory → MemoryFits gg.memory → o < 2 ^ 32 → One C l ex (length es) e' v → effect (Store t align o) gg l (w ∷ v ∷ []) ≢ unfit → Guards X k g co ex (e ∷ e' ∷ es) (Store t align o) (kind_of (effect (Store t align o) gg l (w ∷ v ∷ [])))
   guard_store X k g gg co ex t align o e e' w v es gm mf lo on nw = numbers v on (two_of (store_type t) I32 w v (λ n a. effects.with_some gg.memory (λ m. effects.in_bounds (memories.put m (address a o) (to_bytes (store_bits t / 8) n)) (λ m'. gives (with_memory gg m') l []))) nw) nw
     where
       by_memory : (n x : ℕ) (r : Option Memory) → One C l ex (length es) e' (values.I32 x) → effects.with_some r (λ m. effects.in_bounds (memories.put m (address x o) (to_bytes (store_bits t / 8) n)) (λ m'. gives (with_memory gg m') l [])) ≢ unfit → gg.memory ≡ r → Guards X k g co ex (e ∷ e' ∷ es) (Store t align o) (kind_of (effects.with_some r (λ m. effects.in_bounds (memories.put m (address x o) (to_bytes (store_bits t / 8) n)) (λ m'. gives (with_memory gg m') l []))))
@@ -459,7 +458,7 @@ module _ (M : Engine) (C : Ctx) (l : List Value) (size : length C.locals ≡ len
       let z : length new ≡ n = window_len m.bytes from n (leb-true (from + n) (length m.bytes) e) in
       put_kind m to new f (nat_le (to + length new) (length m.bytes)) h ∙ ap (λ j. out_kind (nat_le (to + j) (length m.bytes))) z
 
-  guard_copies : (X : Shell) (k : Nodes) (g gg : World) (co : List CollectorCall) (ex : List Value) (e e' e'' : Place) (w v u : Value) (es : List Place) → TellsLength C g gg.memory → MemoryFits gg.memory → One C l ex (length (e' ∷ e'' ∷ es)) e w → One C l ex (length (e'' ∷ es)) e' v → One C l ex (length es) e'' u → effect MemoryCopy gg l (w ∷ v ∷ u ∷ []) ≢ unfit → Guards X k g co ex (e ∷ e' ∷ e'' ∷ es) MemoryCopy (kind_of (effect MemoryCopy gg l (w ∷ v ∷ u ∷ [])))
+  guard_copies : (X : Shell) (k : Nodes) (g gg : World) (co : List CollectorCall) (ex : List Value) (e e' e'' : Place) (w v u : Value) (es : List Place) → TellsLength C ex gg.memory → MemoryFits gg.memory → One C l ex (length (e' ∷ e'' ∷ es)) e w → One C l ex (length (e'' ∷ es)) e' v → One C l ex (length es) e'' u → effect MemoryCopy gg l (w ∷ v ∷ u ∷ []) ≢ unfit → Guards X k g co ex (e ∷ e' ∷ e'' ∷ es) MemoryCopy (kind_of (effect MemoryCopy gg l (w ∷ v ∷ u ∷ [])))
   guard_copies X k g gg co ex e e' e'' (values.I64 n) v u es gm mf o o' o'' nw = absurd (nw refl)
   guard_copies X k g gg co ex e e' e'' (values.I32 n) (values.I64 from) u es gm mf o o' o'' nw = absurd (nw refl)
   guard_copies X k g gg co ex e e' e'' (values.I32 n) (values.I32 from) (values.I64 to) es gm mf o o' o'' nw = absurd (nw refl)
@@ -471,7 +470,7 @@ module _ (M : Engine) (C : Ctx) (l : List Value) (size : length C.locals ≡ len
           subst (Guards X k g co ex (e ∷ e' ∷ e'' ∷ es) MemoryCopy) (sym (copy_kind m (modulo I32 to) (modulo I32 from) (modulo I32 n) (λ m'. gives (with_memory gg m') l []) (nat_le (modulo I32 from + modulo I32 n) (length m.bytes)) refl (λ x. refl)))
           (guard_copy_to X k g m co ex e e' e'' (length es) from to n o o' o'' (gm ∙ ap (λ o. Some (values.I64 (told_length o))) r) (subst MemoryFits r mf))
 
-  guard_fills : (X : Shell) (k : Nodes) (g gg : World) (co : List CollectorCall) (ex : List Value) (e e' e'' : Place) (w v u : Value) (es : List Place) → TellsLength C g gg.memory → MemoryFits gg.memory → One C l ex (length (e' ∷ e'' ∷ es)) e w → One C l ex (length es) e'' u → effect MemoryFill gg l (w ∷ v ∷ u ∷ []) ≢ unfit → Guards X k g co ex (e ∷ e' ∷ e'' ∷ es) MemoryFill (kind_of (effect MemoryFill gg l (w ∷ v ∷ u ∷ [])))
+  guard_fills : (X : Shell) (k : Nodes) (g gg : World) (co : List CollectorCall) (ex : List Value) (e e' e'' : Place) (w v u : Value) (es : List Place) → TellsLength C ex gg.memory → MemoryFits gg.memory → One C l ex (length (e' ∷ e'' ∷ es)) e w → One C l ex (length es) e'' u → effect MemoryFill gg l (w ∷ v ∷ u ∷ []) ≢ unfit → Guards X k g co ex (e ∷ e' ∷ e'' ∷ es) MemoryFill (kind_of (effect MemoryFill gg l (w ∷ v ∷ u ∷ [])))
   guard_fills X k g gg co ex e e' e'' (values.I64 n) v u es gm mf o o'' nw = absurd (nw refl)
   guard_fills X k g gg co ex e e' e'' (values.I32 n) (values.I64 byte) u es gm mf o o'' nw = absurd (nw refl)
   guard_fills X k g gg co ex e e' e'' (values.I32 n) (values.I32 byte) (values.I64 to) es gm mf o o'' nw = absurd (nw refl)
@@ -486,7 +485,7 @@ module _ (M : Engine) (C : Ctx) (l : List Value) (size : length C.locals ≡ len
           subst (Guards X k g co ex (e ∷ e' ∷ e'' ∷ es) MemoryFill) (sym kind) (guard_fill_to X k g m co ex e e'' (length es) to n o o'' (gm ∙ ap (λ o. Some (values.I64 (told_length o))) r) (subst MemoryFits r mf))
 
   -- a guard tells whether the instruction traps, and the other piece with which kind; both change nothing
-  guard_by : (X : Shell) (k : Nodes) (g gg : World) (co : List CollectorCall) (ex : List Value) (js es : List Place) (ops vs below : List Value) (i : Basic) → Risky i → TellsLength C g gg.memory → MemoryFits gg.memory → SmallOffset i → can_trap i ≡ true → Holds C l ex js ops es → cut (takes i) ops ≡ parts vs below → effect i gg l vs ≢ unfit → Guards X k g co ex (es ++ js) i (kind_of (effect i gg l vs))
+  guard_by : (X : Shell) (k : Nodes) (g gg : World) (co : List CollectorCall) (ex : List Value) (js es : List Place) (ops vs below : List Value) (i : Basic) → Risky i → TellsLength C ex gg.memory → MemoryFits gg.memory → SmallOffset i → can_trap i ≡ true → Holds C l ex js ops es → cut (takes i) ops ≡ parts vs below → effect i gg l vs ≢ unfit → Guards X k g co ex (es ++ js) i (kind_of (effect i gg l vs))
   guard_by X k g gg co ex js es [] vs below i (risky_binary t1 op by) gm mf so t h c nw = absurd (cc)
   guard_by X k g gg co ex js es (y ∷ []) vs below i (risky_binary t1 op by) gm mf so t h c nw = absurd (cc)
   guard_by X k g gg co ex js [] (y ∷ x ∷ ops) vs below i (risky_binary t1 op by) gm mf so t h c nw = absurd h
@@ -530,5 +529,5 @@ module _ (M : Engine) (C : Ctx) (l : List Value) (size : length C.locals ≡ len
       let nw' = subst (λ z. effect MemoryFill gg l z ≢ unfit) f nw in
       subst (λ z. Guards X k g co ex (e ∷ e' ∷ e'' ∷ (es ++ js)) MemoryFill (kind_of (effect MemoryFill gg l z))) (sym f) (guard_fills X k g gg co ex e e' e'' y x z (es ++ js) gm mf h.0 h.1.1.0 nw')
 
-  pub guard_to : (X : Shell) (k : Nodes) (g gg : World) (co : List CollectorCall) (ex : List Value) (js es : List Place) (ops vs below : List Value) (i : Basic) → TellsLength C g gg.memory → MemoryFits gg.memory → SmallOffset i → can_trap i ≡ true → Holds C l ex js ops es → cut (takes i) ops ≡ parts vs below → effect i gg l vs ≢ unfit → Guards X k g co ex (es ++ js) i (kind_of (effect i gg l vs))
+  pub guard_to : (X : Shell) (k : Nodes) (g gg : World) (co : List CollectorCall) (ex : List Value) (js es : List Place) (ops vs below : List Value) (i : Basic) → TellsLength C ex gg.memory → MemoryFits gg.memory → SmallOffset i → can_trap i ≡ true → Holds C l ex js ops es → cut (takes i) ops ≡ parts vs below → effect i gg l vs ≢ unfit → Guards X k g co ex (es ++ js) i (kind_of (effect i gg l vs))
   guard_to X k g gg co ex js es ops vs below i gm mf so t h c nw = guard_by X k g gg co ex js es ops vs below i (risk_of i t) gm mf so t h c nw

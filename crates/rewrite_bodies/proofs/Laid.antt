@@ -1,8 +1,10 @@
 -- A body with its landings: how it is entered, how many landings there are, and that nothing else of the function changes with them.
-use Rattle.std.proofs.Common.{◌≡◌, ℕ, ◌≤◌, nat_lt, List, [], ◌∷◌, length, Option, Some, None, Bool, true, false, refl, sym, ap, subst, arith, slice_get, length-append}
+use Rattle.std.proofs.Common.{◌≡◌, ℕ, ◌≤◌, nat_lt, List, [], ◌∷◌, length, Option, Some, None, Bool, true, false, refl, sym, ap, subst, arith, slice_get, length-append, ◌++◌}
 use Rattle.std.proofs.lemmas.Bool.{ltb-true}
 use Rattle.wasm_syntax.specs.declared.value.ValType.{ValType}
 use Rattle.wasm_syntax.specs.declared.value.Value.{Value}
+use Rattle.wasm_syntax.specs.declared.value.Value.TheVariants as values
+use Rattle.wasm_syntax.specs.Numbers.{types}
 use Rattle.wasm_syntax.specs.declared.instruction.Basic.{Basic}
 use Rattle.wasm_syntax.specs.declared.parts.FuncType.{FuncType}
 use Rattle.wasm_syntax.specs.Tree.{Jump, Unreachable, Br, BrIf, BrTable, Return, Call, CallIndirect, Nodes, stop, basic, jump, block, loop, choose}
@@ -11,13 +13,15 @@ use Rattle.wasm_syntax.specs.Host.{World}
 use Rattle.wasm_syntax.specs.declared.host.CollectorCall.{CollectorCall}
 use Rattle.wasm_syntax.specs.Effect.{takes}
 use Rattle.wasm_syntax.specs.Machine.{Frame, leaves, returns, label, frame, config, Engine, result_of}
-use Rattle.rewrite_bodies.specs.Numbering.{import_count}
-use Rattle.rewrite_bodies.specs.calls.Slots.{Place, Landing, Ctx, less, pushed, grown, under, result_type, freed, after_plain}
+use Rattle.rewrite_bodies.specs.Numbering.{import_count, flag_of}
+use Rattle.rewrite_bodies.specs.calls.Slots.{Place, Landing, Ctx, less, pushed, grown, under, result_type, freed, after_plain, added, measured}
 use Rattle.rewrite_bodies.specs.calls.Landings.{number_of, landing_behind, most_landings, at_end, unless_there, with_some, landing_call, landings_call, landings_jump, landings_from, landed, landing_at, part_of}
-use Rattle.rewrite_bodies.specs.calls.Rewrite.{rewrite, landing_code, nested, exit_code, laid}
-use Rattle.rewrite_bodies.specs.calls.Agreement.{l_labels, FitsIn, Room_call, Room_jump, Room}
-use Rattle.rewrite_bodies.specs.calls.Steps.{To}
+use Rattle.rewrite_bodies.specs.calls.Rewrite.{rewrite, landing_code, nested, exit_code, blocks, laid}
+use Rattle.rewrite_bodies.specs.calls.Agreement.{l_labels, FitsIn, Room_call, Room_jump, Room, told_length, flagged}
+use Rattle.rewrite_bodies.specs.calls.Steps.{To, Shell}
 use Rattle.rewrite_bodies.proofs.Run.{still, one_step, seq, weaken}
+use Rattle.rewrite_bodies.proofs.Told.{remeasured}
+use Rattle.rewrite_bodies.proofs.Measures.{measure_to}
 use Rattle.rewrite_bodies.proofs.Landed.{first_kind, l_below, l_head}
 use Rattle.rewrite_bodies.proofs.Risks.{treated, result_alike, place_alike}
 
@@ -109,12 +113,22 @@ module _ (M' : Engine) (f : ℕ) (r : Option ValType) (tl : List Value) (FR : Li
       let s2 : To M' 1 1 (config (frame f r 0 tl (label [] (block 0 x.carried inner 0 k) 0 (first_kind xs) ∷ l_below C xs) ∷ FR) g co) (config (frame f r 0 tl (label [] inner 0 (leaves x.carried) ∷ label [] k 0 (first_kind xs) ∷ l_below C xs) ∷ FR) g co) = one_step M' _ _ refl in
       subst (λ z. To M' (length (x ∷ xs)) (length (x ∷ xs)) (config (frame f r 0 tl (label [] (nested C (x ∷ xs) inner) 0 (leaves None) ∷ label [] (exit_code C) 0 (returns C.result) ∷ []) ∷ FR) g co) (config (frame f r 0 tl (label [] inner 0 (leaves x.carried) ∷ z) ∷ FR) g co)) (sym (l_head C k xs)) (weaken M' (seq M' s1 s2) (omega arith) (omega arith))
 
-  pub into_body : (C : Ctx) (nodes : Nodes) → length C.landings ≤ most_landings → To M' 0 25 (config (frame f r 0 tl (label [] (laid C nodes) 0 (returns C.result) ∷ []) ∷ FR) g co) (config (frame f r 0 tl (label [] (rewrite C 1 [] nodes) 0 (leaves C.result) ∷ l_labels C (jump 0 Return stop) C.landings) ∷ FR) g co)
+  pub into_body : (C : Ctx) (nodes : Nodes) → length C.landings ≤ most_landings → To M' 0 25 (config (frame f r 0 tl (label [] (blocks C nodes) 0 (returns C.result) ∷ []) ∷ FR) g co) (config (frame f r 0 tl (label [] (rewrite C 1 [] nodes) 0 (leaves C.result) ∷ l_labels C (jump 0 Return stop) C.landings) ∷ FR) g co)
   into_body C nodes few =
       let ret = jump 0 Return stop in
       let xs = C.landings in
       let inner = block 0 C.result (rewrite C 1 [] nodes) 0 ret in
-      let s1 : To M' 1 1 (config (frame f r 0 tl (label [] (laid C nodes) 0 (returns C.result) ∷ []) ∷ FR) g co) (config (frame f r 0 tl (label [] (nested C xs inner) 0 (leaves None) ∷ label [] (exit_code C) 0 (returns C.result) ∷ []) ∷ FR) g co) = one_step M' _ _ refl in
+      let s1 : To M' 1 1 (config (frame f r 0 tl (label [] (blocks C nodes) 0 (returns C.result) ∷ []) ∷ FR) g co) (config (frame f r 0 tl (label [] (nested C xs inner) 0 (leaves None) ∷ label [] (exit_code C) 0 (returns C.result) ∷ []) ∷ FR) g co) = one_step M' _ _ refl in
       let s2 = nested_to C xs inner in
       let s3 : To M' 1 1 (config (frame f r 0 tl (label [] inner 0 (first_kind xs) ∷ l_below C xs) ∷ FR) g co) (config (frame f r 0 tl (label [] (rewrite C 1 [] nodes) 0 (leaves C.result) ∷ label [] ret 0 (first_kind xs) ∷ l_below C xs) ∷ FR) g co) = one_step M' _ _ refl in
-      subst (λ z. To M' 0 25 (config (frame f r 0 tl (label [] (laid C nodes) 0 (returns C.result) ∷ []) ∷ FR) g co) (config (frame f r 0 tl (label [] (rewrite C 1 [] nodes) 0 (leaves C.result) ∷ z) ∷ FR) g co)) (sym (l_head C ret xs)) (weaken M' (seq M' s1 (seq M' s2 s3)) (omega arith) (omega (arith, few)))
+      subst (λ z. To M' 0 25 (config (frame f r 0 tl (label [] (blocks C nodes) 0 (returns C.result) ∷ []) ∷ FR) g co) (config (frame f r 0 tl (label [] (rewrite C 1 [] nodes) 0 (leaves C.result) ∷ z) ∷ FR) g co)) (sym (l_head C ret xs)) (weaken M' (seq M' s1 (seq M' s2 s3)) (omega arith) (omega (arith, few)))
+
+-- into a function: the length of the memory is read in front
+pub into_function : (M' M : Engine) (f : ℕ) (r : Option ValType) (FR : List Frame) (g : World) (co : List CollectorCall) (C : Ctx) (l ex : List Value) (nodes : Nodes) → length C.locals ≡ length l → types ex ≡ added C.slots → flag_of C.source ≡ length g.globals → length C.landings ≤ most_landings →
+    To M' 0 27 (config (frame f r 0 (l ++ ex) (label [] (laid C nodes) 0 (returns C.result) ∷ []) ∷ FR) (flagged M g (values.I32 0)) co)
+    (config (frame f r 0 (l ++ remeasured (measured C) C (told_length g.memory) ex) (label [] (rewrite C 1 [] nodes) 0 (leaves C.result) ∷ l_labels C (jump 0 Return stop) C.landings) ∷ FR) (flagged M g (values.I32 0)) co)
+into_function M' M f r FR g co C l ex nodes size room fl few =
+    let X : Shell = record { idx = f; result = r; kind = returns C.result; below = []; frames = FR } in
+    let s1 = measure_to M' M C X l ex [] (blocks C nodes) g co (values.I32 0) size room fl (measured C) in
+    let s2 = into_body M' f r (l ++ remeasured (measured C) C (told_length g.memory) ex) FR (flagged M g (values.I32 0)) co C nodes few in
+    weaken M' (seq M' s1 s2) (omega arith) (omega arith)

@@ -21,9 +21,9 @@ use Rattle.wasm_syntax.specs.declared.module.ModuleParts.{ModuleParts as Module}
 use Rattle.wasm_syntax.specs.Access.{load_bits, store_bits}
 use Rattle.wasm_syntax.specs.Tree.{Br, Nodes, stop, basic, jump, BrIf}
 use Rattle.rewrite_bodies.specs.Numbering.{import_count, flag_of}
-use Rattle.rewrite_bodies.specs.calls.Slots.{Place, Spilled, Known, Copied, place_type, Ctx, slot, kind_at, offset_at, less, pushed, grown, without}
+use Rattle.rewrite_bodies.specs.calls.Slots.{Place, Spilled, Known, Copied, place_type, Ctx, slot, kind_at, offset_at, less, pushed, grown, without, length_at, measured}
 use Rattle.rewrite_bodies.specs.calls.Pieces.{get, set, const, i32, call, if_any, fetch, load, keep_slot, keep, store, reload, spill_one, spill, drops}
-use Rattle.rewrite_bodies.specs.calls.Guards.{less_word, least, minus_one, guard_zero, guard_signed, past_end, beyond_word, out_test, guard_memory, range_test, guard_copy, guard_fill, guard, kind_signed, kind, length_of, get_length, set_length, renewed}
+use Rattle.rewrite_bodies.specs.calls.Guards.{less_word, least, minus_one, guard_zero, guard_signed, past_end, beyond_word, out_test, guard_memory, range_test, guard_copy, guard_fill, guard, kind_signed, kind, length_of, get_length, set_length, renewed, measure, renew_both}
 use Rattle.rewrite_bodies.specs.calls.Rewrite.{hand_value, hand, hand_top, to_exit, unwind, unwind_kind, hand_left, test_flag, test_both, checked, get_flag, lengthened}
 use Rattle.rewrite_bodies.specs.calls.Agreement.{FitsIn}
 use Rattle.rewrite_bodies.specs.calls.Length.{code_length, FewNumbers}
@@ -91,10 +91,6 @@ len_set_length src k =
 pub len_renewed : (ls : List Limits) (src : Module) (k : Nodes) → code_length (renewed ls src k) ≤ 20 + code_length k
 len_renewed [] src k = omega arith
 len_renewed (l ∷ ls) src k = len_set_length src k
-
-pub len_lengthened : (q : Bool) (C : Ctx) (k : Nodes) → code_length (lengthened q C k) ≤ 20 + code_length k
-len_lengthened false C k = omega arith
-len_lengthened true C k = len_set_length C.source k
 
 pub len_branch : (l : ℕ) → code_length (jump 0 (Br l) stop) ≤ 11
 len_branch l = let s = ten_bytes l in omega (arith, s)
@@ -180,16 +176,37 @@ known_without these (Copied t x ∷ es) = let a = one_less (these x) in let z = 
     one_less false = omega arith
 
 module _ (C : Ctx) (few : FewNumbers C) where
-  local_four : (x : ℕ) → x < 2 * C.slots + 4 → length (unsigned_bytes (length C.locals + x)) ≤ 4
+  local_four : (x : ℕ) → x < 2 * C.slots + 5 → length (unsigned_bytes (length C.locals + x)) ≤ 4
   local_four x lt = four_bytes (length C.locals + x) (omega (arith, few.locals, lt))
 
-  pub len_get : (x : ℕ) (k : Nodes) → x < 2 * C.slots + 4 → code_length (get C x k) ≤ 5 + code_length k
+  pub len_get : (x : ℕ) (k : Nodes) → x < 2 * C.slots + 5 → code_length (get C x k) ≤ 5 + code_length k
   len_get x k lt = let s = local_four x lt in omega (arith, s)
 
-  pub len_set : (x : ℕ) (k : Nodes) → x < 2 * C.slots + 4 → code_length (set C x k) ≤ 5 + code_length k
+  pub len_set : (x : ℕ) (k : Nodes) → x < 2 * C.slots + 5 → code_length (set C x k) ≤ 5 + code_length k
   len_set x k lt = let s = local_four x lt in omega (arith, s)
 
-  slot_low : (t : ValType) (h : ℕ) → h ≤ C.slots → slot C.slots t h < 2 * C.slots + 4
+  -- the length is read
+  pub len_measure : (q : Bool) (k : Nodes) → code_length (measure q C k) ≤ 16 + code_length k
+  len_measure false k = omega arith
+  len_measure true k =
+      let a = len_global_get (length_of C.source) (set C (length_at C) k) in
+      let b = len_set (length_at C) k (omega arith) in
+      omega (arith, a, b)
+
+  pub len_renew_both : (k : Nodes) → code_length (renew_both C k) ≤ 36 + code_length k
+  len_renew_both k =
+      let a = len_renewed C.source.memories C.source (measure (measured C) C k) in
+      let b = len_measure (measured C) k in
+      omega (arith, a, b)
+
+  pub len_lengthened : (q : Bool) (k : Nodes) → code_length (lengthened q C k) ≤ 36 + code_length k
+  len_lengthened false k = omega arith
+  len_lengthened true k =
+      let a = len_set_length C.source (measure (measured C) C k) in
+      let b = len_measure (measured C) k in
+      omega (arith, a, b)
+
+  slot_low : (t : ValType) (h : ℕ) → h ≤ C.slots → slot C.slots t h < 2 * C.slots + 5
   slot_low I32 h le = omega (arith, le)
   slot_low I64 h le = omega (arith, le)
 
@@ -237,7 +254,7 @@ module _ (C : Ctx) (few : FewNumbers C) where
   len_store None es k fit = omega arith
   len_store (Some t) es k fit = len_set (slot C.slots t (length es)) k (slot_low t (length es) (omega (arith, fit)))
 
-  len_tee : (x : ℕ) (k : Nodes) → x < 2 * C.slots + 4 → code_length (basic 0 (LocalTee (length C.locals + x)) k) ≤ 5 + code_length k
+  len_tee : (x : ℕ) (k : Nodes) → x < 2 * C.slots + 5 → code_length (basic 0 (LocalTee (length C.locals + x)) k) ≤ 5 + code_length k
   len_tee x k lt = let s = local_four x lt in omega (arith, s)
 
   len_keep_slot : (q : Bool) (t : ValType) (es : List Place) (k : Nodes) → FitsIn C (Some t) es → code_length (keep_slot q C t es k) ≤ 5 + code_length k
@@ -356,10 +373,10 @@ module _ (C : Ctx) (few : FewNumbers C) where
       let x5 = len_guard_zero t b (suc h) (basic 0 (Binary I32 Or) k) (omega (arith, le)) in
       omega (arith, x1, x2, x3, x4, x5)
 
-  len_get_length : (k : Nodes) → code_length (get_length C.source k) ≤ 11 + code_length k
-  len_get_length k = len_global_get (length_of C.source) k
+  len_get_length : (k : Nodes) → code_length (get_length C k) ≤ 5 + code_length k
+  len_get_length k = len_get (length_at C) k (omega arith)
 
-  len_past_end : (k : Nodes) → code_length (past_end C.source k) ≤ 16 + code_length k
+  len_past_end : (k : Nodes) → code_length (past_end C k) ≤ 16 + code_length k
   len_past_end k =
       let k1 = basic 0 (Binary I64 Add) (basic 0 (Compare I64 GtU) k) in
       let x = len_get_length (const (values.I64 4) k1) in
@@ -372,14 +389,14 @@ module _ (C : Ctx) (few : FewNumbers C) where
   len_guard_memory : (a : Place) (h n : ℕ) (k : Nodes) → h ≤ C.slots → code_length (guard_memory C a h n k) ≤ 40 + code_length k
   len_guard_memory a h n k le =
       let k1 = basic 0 (Compare I64 GtS) k in
-      let x1 = len_fetched a h (out_test C.source n k) le in
+      let x1 = len_fetched a h (out_test C n k) le in
       let x2 = len_beyond (n == 4) n k1 in
       let x3 = len_get_length (beyond_word (n == 4) n k1) in
       omega (arith, x1, x2, x3)
 
   len_range : (a : Place) (h : ℕ) (n : Place) (hn : ℕ) (k : Nodes) → h ≤ C.slots → hn ≤ C.slots → code_length (range_test C a h n hn k) ≤ 41 + code_length k
   len_range a h n hn k le len =
-      let k1 = basic 0 (Convert ExtendU) (basic 0 (Binary I64 Add) (past_end C.source k)) in
+      let k1 = basic 0 (Convert ExtendU) (basic 0 (Binary I64 Add) (past_end C k)) in
       let x1 = len_fetched a h (basic 0 (Convert ExtendU) (fetch C n hn k1)) le in
       let x2 = len_fetched n hn k1 len in
       let x3 = len_past_end k in

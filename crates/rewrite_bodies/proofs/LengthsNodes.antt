@@ -2,12 +2,12 @@
 use Rattle.rewrite_bodies.proofs.Laid.{same_at, room_landed}
 use Rattle.rewrite_bodies.proofs.Charges.{costs_of, charge, charge_at, charge_behind, charge_call, charged, charge_low, all_paid, charge_of}
 use Rattle.rewrite_bodies.specs.calls.Landings.{number_in, landing_of, one_kind, with_some, landing_call, landings_call, landings_jump, landings_from, landed, landing_at, needed, part_of}
-use Rattle.std.proofs.Common.{◌≡◌, ℕ, zero, suc, ◌==◌, ◌+◌, ◌*◌, ◌≤◌, nat_lt, List, [], ◌∷◌, ◌++◌, length, map, reverse, Option, Some, None, Bool, true, false, refl, sym, ap, ◌∙◌, subst, arith, slice_get, option_map, option_to_list, take}
+use Rattle.std.proofs.Common.{◌≡◌, ℕ, zero, suc, ◌==◌, ◌+◌, ◌*◌, ◌≤◌, nat_lt, List, [], ◌∷◌, ◌++◌, length, map, reverse, Option, Some, None, Bool, true, false, refl, sym, ap, ◌∙◌, subst, arith, slice_get, option_map, option_to_list, take, ◌⊎◌, inl, inr}
 use Rattle.std.proofs.lemmas.List.{length-reverse}
 use Rattle.wasm_syntax.specs.declared.value.ValType.{ValType}
 use Rattle.wasm_syntax.specs.declared.value.ValType.TheVariants.{I32}
 use Rattle.wasm_syntax.specs.declared.instruction.Basic.{Basic}
-use Rattle.wasm_syntax.specs.declared.instruction.Basic.TheVariants.{LocalGet, GlobalSet, Const, Eqz, Binary}
+use Rattle.wasm_syntax.specs.declared.instruction.Basic.TheVariants.{LocalGet, GlobalSet, MemoryGrow, Const, Eqz, Binary}
 use Rattle.wasm_syntax.specs.declared.parts.FuncType.{FuncType}
 use Rattle.wasm_syntax.specs.Tree.{Jump, Unreachable, Br, BrIf, BrTable, Return, Call, CallIndirect, Nodes, stop, basic, jump, block, loop, choose, IsTree}
 use Rattle.wasm_syntax.specs.Module.{type_at, function_types, option_then}
@@ -18,9 +18,9 @@ use Rattle.rewrite_bodies.specs.Numbering.{import_count, mapped, frame_import, f
 use Rattle.wasm_syntax.specs.Run.{table_min}
 use Rattle.wasm_syntax.specs.calls.Classes.{Risky}
 use Rattle.int_ops.specs.declared.operators.Binary.TheVariants.{Add}
-use Rattle.rewrite_bodies.specs.calls.Slots.{Place, place_type, Ctx, kind_at, offset_at, less, pushed, grown, under, result_place, freed, after_plain, behind_call, Landing, behind_jump, freed_at, local_written}
+use Rattle.rewrite_bodies.specs.calls.Slots.{Place, place_type, Ctx, kind_at, offset_at, less, pushed, grown, under, result_place, freed, after_plain, behind_call, Landing, behind_jump, freed_at, local_written, measured}
 use Rattle.rewrite_bodies.specs.calls.Pieces.{get, set, const, i32, call, if_any, load, keep, store, reload, drops}
-use Rattle.rewrite_bodies.specs.calls.Guards.{can_trap, kind, guard, renew}
+use Rattle.rewrite_bodies.specs.calls.Guards.{can_trap, kind, guard, measure, renew_both}
 use Rattle.rewrite_bodies.specs.calls.Rewrite.{passes, guarded, tested, free, plain, with_result, after_direct, call_code, helper_of, hand_top, test_flag, test_both, past_shown, indirect_code, control, rewrite, hand_locals, zero_result, raise_flag, exit_code, body, unwind_kind, checked, hand, hand_carried, landing_code, nested, laid, free_at, grows, lengthened}
 use Rattle.rewrite_bodies.specs.calls.Agreement.{FitsIn, Room_call, Room}
 use Rattle.rewrite_bodies.specs.calls.Typed.{Info, in_block, in_loop, in_body, original}
@@ -30,9 +30,9 @@ use Rattle.rewrite_bodies.proofs.Unwind.{less_shorter}
 use Rattle.rewrite_bodies.proofs.TypedNodes.{cuts, grown_types, takes_of, own_behind, behind_types, result_is, without_types, AllFine, all_fine_landed, fine_landings}
 use Rattle.rewrite_bodies.proofs.Copies.{Fixed, fixed_under, without_append}
 use Rattle.wasm_laws.proofs.Safe.{one_result}
-use Rattle.rewrite_bodies.proofs.Lengths.{len_const, len_call, len_global_set, len_renewed, len_lengthened, costs_twice, known, known-append, known_parts, known_grown, known_pushed, known_without, length_parts, len_get, len_fetched, len_load, len_hand_value, len_store, len_keep, len_keep_result, len_reload, len_drops, len_spill, len_unwind_kind, len_test_flag, len_test_both, len_guard, len_kind, len_set, len_branch, len_hand, len_landing}
+use Rattle.rewrite_bodies.proofs.Lengths.{len_const, len_call, len_global_set, len_measure, len_renew_both, len_lengthened, costs_twice, known, known-append, known_parts, known_grown, known_pushed, known_without, length_parts, len_get, len_fetched, len_load, len_hand_value, len_store, len_keep, len_keep_result, len_reload, len_drops, len_spill, len_unwind_kind, len_test_flag, len_test_both, len_guard, len_kind, len_set, len_branch, len_hand, len_landing}
 use Rattle.wasm_leb.proofs.Lengths.{ten_bytes}
-use Rattle.rewrite_bodies.proofs.Risks.{risk_of, Treated, gets, sets, tees, constant, spills, treated}
+use Rattle.rewrite_bodies.proofs.Risks.{risk_of, growth, Treated, gets, sets, tees, constant, spills, treated}
 use Rattle.rewrite_bodies.specs.calls.Facts.{needs, exposed_in}
 use Rattle.rewrite_bodies.proofs.FactLaws.{needs_trap}
 
@@ -94,6 +94,23 @@ module _ (C : Ctx) (few : FewNumbers C) where
   freed_short : (d : ℕ) (es left : List Place) (o : ℕ) (i : Basic) (k : Nodes) → length es ≤ C.slots → length left ≤ length es → code_length (guarded (needs C o i) C d es o i (free C i left k)) + charge_at C o i es ≤ 153 + 16 * length es + code_length k
   freed_short d es left o i k le ll = freed_as i (treated i) d es left o k le ll
 
+  -- what changes the length of the memory has no guard
+  abbrev LowGrown : ℕ → List Place → List Place → ℕ → Nodes → Basic → Bool → Type 0
+  LowGrown d es left o kept i q = code_length (guarded (needs C o i) C d es o i (free C i left (basic 0 i (lengthened q C kept)))) + charge_at C o i es ≤ 153 + 16 * length es + (basic_length i + code_length kept)
+
+  grown_short : (d : ℕ) (es left : List Place) (o : ℕ) (i : Basic) (kept : Nodes) → length es ≤ C.slots → length left ≤ length es → LowGrown d es left o kept i (grows i)
+  grown_short d es left o i kept le ll = by_growth (growth i)
+    where
+      by_growth : (i ≡ MemoryGrow) ⊎ (grows i ≡ false) → LowGrown d es left o kept i (grows i)
+      by_growth (inl same) =
+          let a = len_lengthened C few true kept in
+          let grown : LowGrown d es left o kept MemoryGrow true = omega (arith, a) in
+          subst (λ i. LowGrown d es left o kept i (grows i)) (sym same) grown
+      by_growth (inr stays) =
+          let a = freed_short d es left o i (basic 0 i kept) le ll in
+          let same : LowGrown d es left o kept i false = omega (arith, a) in
+          subst (LowGrown d es left o kept i) (sym stays) same
+
   known_freed : (i : Basic) (es : List Place) → known (freed i es) ≤ known es
   known_freed i es = by_local (local_written i)
     where
@@ -115,12 +132,11 @@ module _ (C : Ctx) (few : FewNumbers C) where
       let x : code_length k + charged C (after_plain C es i) rest ≤ live_weight C (after_plain C es i) rest + 12 * known own2 = subst (λ z. code_length (rewrite C d z rest) + charged C z rest ≤ live_weight C z rest + 12 * known own2) (sym conv) (ih own2 (behind_types C es i T.own1 ∙ T.after) (subst (λ z. Room C z rest) conv rm.3)) in
       let less_ : length left ≤ length es = less_shorter n es in
       let kept = keep (passes C rest) C p left k in
-      let a = freed_short d es left o i (basic 0 i (lengthened (grows i) C kept)) rm.0 less_ in
-      let c = len_lengthened (grows i) C kept in
+      let a = grown_short d es left o i kept rm.0 less_ in
       let b = len_keep C few (passes C rest) p left k (subst (λ z. FitsIn C z left) (sym (result_is C es i)) rm.2) in
       let kp = known_pushed p (freed i T.own1) in
       let kf = known_freed i T.own1 in
-      omega (arith, a, b, c, x, kp, kf, known_parts n es, ap known T.left, known-append T.own1 js, known-append own js)
+      omega (arith, a, b, x, kp, kf, known_parts n es, ap known T.left, known-append T.own1 js, known-append own js)
 
   -- ---- calls
 
@@ -132,17 +148,18 @@ module _ (C : Ctx) (few : FewNumbers C) where
   call_charge o true type es = refl
   call_charge o false type es = refl
 
-  after_short : (ls : List Info) (q : Bool) (r : Option ValType) (left : List Place) (o : ℕ) (rest : Nodes) → length left ≤ C.slots → FitsIn C r left → code_length (after_direct q C (length ls) r left o (passes C rest) (λ es'. rewrite C (length ls) es' rest)) + behind_if o q left ≤ 78 + 16 * length left + code_length (rewrite C (length ls) (grown r left) rest)
+  after_short : (ls : List Info) (q : Bool) (r : Option ValType) (left : List Place) (o : ℕ) (rest : Nodes) → length left ≤ C.slots → FitsIn C r left → code_length (after_direct q C (length ls) r left o (passes C rest) (λ es'. rewrite C (length ls) es' rest)) + behind_if o q left ≤ 94 + 16 * length left + code_length (rewrite C (length ls) (grown r left) rest)
   after_short ls true r left o rest le fit =
-      let k = with_result C r left (passes C rest) (λ es'. rewrite C (length ls) es' rest) in
-      let a = len_keep_result C few (passes C rest) r left (rewrite C (length ls) (grown r left) rest) fit in
-      let b = len_renewed C.source.memories C.source k in
+      let k = rewrite C (length ls) (grown r left) rest in
+      let a = len_keep_result C few (passes C rest) r left (renew_both C k) fit in
+      let b = len_renew_both C few k in
       omega (arith, a, b)
   after_short ls false r left o rest le fit =
-      let k = rewrite C (length ls) (grown r left) rest in
+      let k = measure (measured C) C (rewrite C (length ls) (grown r left) rest) in
       let a = len_keep_result C few (passes C rest) r left (test_flag C (length ls) left o k) fit in
       let b = len_test_flag C few (length ls) left o k le in
-      omega (arith, a, b)
+      let c = len_measure C few (measured C) (rewrite C (length ls) (grown r left) rest) in
+      omega (arith, a, b, c)
 
   call_short : (ls : List Info) (f : ℕ) (own js : List Place) (o : ℕ) (rest : Nodes) (between : List ValType) → ((type : FuncType) → type_at C.source f ≡ Some type → reverse type.results ≡ option_to_list (result_of type)) → JumpTypes (original C ls) (Call f) (map place_type own) between → Room C (own ++ js) (jump o (Call f) rest) → Rest ls js rest between → code_length (call_code C (length ls) (own ++ js) o f (type_at C.source f) (passes C rest) (λ es'. rewrite C (length ls) es' rest)) + charged C (own ++ js) (jump o (Call f) rest) ≤ live_weight C (own ++ js) (jump o (Call f) rest) + 12 * known own
   call_short ls f own js o rest between one h rm ih =
@@ -190,7 +207,7 @@ module _ (C : Ctx) (few : FewNumbers C) where
       let x = behind ls (p ∷ own) js (suc n) r c.own1 rest between c.left ty room.1 ih in
       let k = rewrite C d (grown r left) rest in
       let kr = reload C r left k in
-      let kd = drops (suc n) (renew C.source kr) in
+      let kd = drops (suc n) (renew_both C kr) in
       let T = take (suc n) (p ∷ es) in
       let low : length left ≤ C.slots = omega (arith, less_shorter n es, rm.0) in
       let call_ = jump 0 (CallIndirect t) (store C r left stop) in
@@ -208,8 +225,8 @@ module _ (C : Ctx) (few : FewNumbers C) where
       let a7 = len_store C few r left stop room.0 in
       let a8 = len_test_both C few d (suc n) (p ∷ es) left o kd rm.0 low in
       let a9 = costs_twice T in
-      let a10 = len_drops C few (suc n) (renew C.source kr) in
-      let a13 = len_renewed C.source.memories C.source kr in
+      let a10 = len_drops C few (suc n) (renew_both C kr) in
+      let a13 = len_renew_both C few kr in
       let a11 = len_reload C few r left k room.0 in
       let g = length_parts (suc n) (p ∷ es) in
       let all_taken : suc n ≤ length T = taken_all (suc n) (p ∷ own) js (I32 ∷ reverse type.params) h.3.below (ap suc (length-reverse type.params)) e0 in
@@ -383,7 +400,9 @@ module _ (C : Ctx) (few : FewNumbers C) where
         let a = rewrite_short nodes (in_body C.result ∷ []) [] [] [] (option_to_list C.result) it tt refl rm ty in
         let b = nested_short C.landings (block 0 C.result (rewrite C 1 [] nodes) 0 (jump 0 Return stop)) fine in
         let c = all_paid C nodes all in
-        omega (arith, a, b, c, exit_short)
+        let inner = nested C C.landings (block 0 C.result (rewrite C 1 [] nodes) 0 (jump 0 Return stop)) in
+        let d = len_measure C few (measured C) (block 0 None inner 0 (exit_code C)) in
+        omega (arith, a, b, c, d, exit_short)
 
 type_in : (C : Ctx) (f : ℕ) (type : FuncType) → type_at C.source f ≡ Some type → (t : ℕ) × (slice_get C.source.types t ≡ Some type)
 type_in C f type e = inside (slice_get (function_types C.source) f) e

@@ -3,6 +3,7 @@ pub mod Longer
 pub mod Measures
 pub mod Parts
 pub mod Passing
+pub mod Told
 pub mod Risks
 pub mod FactLaws
 pub mod KnownSteps

@@ -1,5 +1,5 @@
--- The global that tells the length of the memory: what reads it, what sets it, and which instructions leave that length as it is.
-use Rattle.std.proofs.Common.{◌≡◌, ℕ, suc, ◌+◌, ◌*◌, ◌/◌, ◌%◌, List, [], ◌∷◌, ◌++◌, length, Option, Some, None, Bool, true, false, nat_le, refl, sym, ap, ◌∙◌, subst, arith, slice_get, slice_set, if◌then◌else◌, replicate, ◌⊎◌, inl, inr}
+-- The global and the local that tell the length of the memory: what sets them, and which instructions leave that length as it is.
+use Rattle.std.proofs.Common.{◌≡◌, ◌≤◌, ℕ, suc, ◌+◌, ◌*◌, ◌/◌, ◌%◌, List, [], ◌∷◌, ◌++◌, length, Option, Some, None, Bool, true, false, nat_le, refl, sym, ap, ◌∙◌, subst, arith, slice_get, slice_set, if◌then◌else◌, replicate, ◌⊎◌, inl, inr}
 use Rattle.std.proofs.Math.Nat.{mod-eq_of_lt}
 use Rattle.wasm_syntax.specs.declared.value.ValType.{ValType}
 use Rattle.wasm_syntax.specs.declared.value.ValType.TheVariants.{I32, I64}
@@ -10,7 +10,7 @@ use Rattle.wasm_syntax.specs.declared.instruction.Basic.TheVariants.{Nop, Drop, 
 use Rattle.wasm_syntax.specs.declared.instruction.Convert.TheVariants.{ExtendU}
 use Rattle.int_ops.specs.declared.operators.Binary.TheVariants.{Shl, Sub}
 use Rattle.int_ops.specs.Integers.{binary as int_binary}
-use Rattle.wasm_syntax.specs.Numbers.{number, value, modulo}
+use Rattle.wasm_syntax.specs.Numbers.{number, value, modulo, types}
 use Rattle.wasm_syntax.specs.Tree.{Nodes, basic}
 use Rattle.wasm_syntax.specs.Host.{World}
 use Rattle.wasm_syntax.specs.declared.host.CollectorCall.{CollectorCall}
@@ -21,21 +21,22 @@ use Rattle.wasm_syntax.specs.Effect as effects
 use Rattle.wasm_syntax.specs.Access.{load_bits, store_type, store_bits}
 use Rattle.wasm_syntax.specs.calls.Classes.{EffectClass, Pure, Dividing, Accessing, SetsLocal, SetsGlobal, effect_class, Does}
 use Rattle.wasm_syntax.proofs.Classes.{acts_as_class, OneByOne, computes, is_nop, is_drop, is_select, is_local_get, is_local_set, is_local_tee, is_global_get, is_global_set, is_load, is_store, is_size, is_grow, is_copy, is_fill, is_const, is_compare, is_binary, one_by_one}
-use Rattle.wasm_syntax.specs.Machine.{Engine, next}
+use Rattle.wasm_syntax.specs.Machine.{Engine, next, Label}
 use Rattle.linear_memory.specs.Memory.{Memory, pages, to_bytes}
 use Rattle.linear_memory.specs.Memory as memories
 use Rattle.rewrite_bodies.specs.Numbering.{flag_of}
-use Rattle.rewrite_bodies.specs.calls.Slots.{Ctx}
-use Rattle.rewrite_bodies.specs.calls.Pieces.{const}
-use Rattle.rewrite_bodies.specs.calls.Guards.{less_word, memory_length, length_of, set_length, renewed}
+use Rattle.rewrite_bodies.specs.calls.Slots.{Ctx, Place, length_at, added, measured}
+use Rattle.rewrite_bodies.specs.calls.Pieces.{const, set}
+use Rattle.rewrite_bodies.specs.calls.Guards.{less_word, memory_length, length_of, set_length, renewed, measure, set_both, renew_both}
 use Rattle.rewrite_bodies.specs.calls.Rewrite.{grows, lengthened}
-use Rattle.rewrite_bodies.specs.calls.Agreement.{MemoryFits, byte_count, told_length, TellsLength, with_added, flagged}
+use Rattle.rewrite_bodies.specs.calls.Agreement.{MemoryFits, byte_count, told_length, with_added, flagged, joined, FitsLabels, HasLength}
 use Rattle.rewrite_bodies.specs.calls.Known.{HasLeast}
 use Rattle.rewrite_bodies.specs.calls.Steps.{To, Shell, st}
-use Rattle.rewrite_bodies.proofs.Run.{still, one_step, seq, weaken, push_to}
+use Rattle.rewrite_bodies.proofs.Run.{still, one_step, seq, weaken, push_to, added_set}
 use Rattle.rewrite_bodies.proofs.Parts.{pages_are, step_plain}
 use Rattle.rewrite_bodies.proofs.Longer.{put_fits}
 use Rattle.rewrite_bodies.proofs.Risks.{growth}
+use Rattle.rewrite_bodies.proofs.Told.{remeasured, length_there, types_told, has_told, fits_told}
 
 -- ---- the added globals
 
@@ -54,10 +55,6 @@ get_second (u ∷ g) n b v bs e = let z : n ≡ suc (length g) = e in rw z (get_
 put_second : (g : List Value) (n : ℕ) (b v w : Value) (bs : List Value) → n ≡ length g → slice_set (g ++ b ∷ v ∷ bs) (suc n) w ≡ g ++ b ∷ w ∷ bs
 put_second [] n b v w bs e = let z : n ≡ 0 = e in rw z refl
 put_second (u ∷ g) n b v w bs e = let z : n ≡ suc (length g) = e in rw z (ap (λ r. u ∷ r) (put_second g (length g) b v w bs refl))
-
--- in each world of the rewritten module the global tells the length
-pub tells_length : (M : Engine) (C : Ctx) (g : World) (b : Value) → flag_of C.source ≡ length g.globals → TellsLength C (flagged M g b) g.memory
-tells_length M C g b fl = get_second g.globals (flag_of C.source) b (values.I64 (told_length g.memory)) [] fl
 
 -- ---- what leaves the length as it is
 
@@ -214,23 +211,78 @@ module _ (M' : Engine) where
         by_memory (Some m) e has mf =
             subst (λ (n : ℕ). To M' 0 7 (st X tl s (set_length src k) (with_added M g (b ∷ values.I64 n ∷ [])) co) (st X tl s k (with_added M g (b ∷ values.I64 n ∷ [])) co)) (sym (ap told_length e)) (weaken M' (set_length_to m (less_word (length m.bytes)) e mf) (omega arith) (omega arith))
 
-    -- this code leads, from what the global had for another length, to what it has for this one
-    abbrev Goes : Nodes → ℕ → Type 0
-    Goes code old = To M' 0 7 (st X tl s code (with_added M g (b ∷ values.I64 old ∷ [])) co) (st X tl s k (flagged M g b) co)
+  -- ---- the local is set too
 
-    -- behind an instruction, by whether it changes the length
-    pub lengthened_to : (C : Ctx) → C.source ≡ src → (i : Basic) (before : World) (l l' vs ws : List Value) → effect i before l vs ≡ gives g l' ws → MemoryFits g.memory → To M' 0 7 (st X tl s (lengthened (grows i) C k) (with_added M g (b ∷ values.I64 (told_length before.memory) ∷ [])) co) (st X tl s k (flagged M g b) co)
-    lengthened_to C is i before l l' vs ws e mf = by_growth (growth i)
+  -- the added locals behind an instruction, by whether it changes the length
+  abbrev pub lengthy : Bool → Ctx → ℕ → List Value → List Value
+  lengthy false C n ex = ex
+  lengthy true C n ex = remeasured (measured C) C n ex
+
+  pub types_lengthy : (q : Bool) (C : Ctx) (n : ℕ) (ex : List Value) → types ex ≡ added C.slots → types (lengthy q C n ex) ≡ types ex
+  types_lengthy false C n ex room = refl
+  types_lengthy true C n ex room = types_told (measured C) C n ex room
+
+  pub fits_lengthy : (q : Bool) (C : Ctx) (l ex : List Value) (n : ℕ) (a : Option ValType) (Ls : List Label) (ss : List (List Place)) → length (joined ss) ≤ suc C.slots → FitsLabels C l ex a Ls ss → FitsLabels C l (lengthy q C n ex) a Ls ss
+  fits_lengthy false C l ex n a Ls ss low h = h
+  fits_lengthy true C l ex n a Ls ss low h = fits_told (measured C) C l ex n a Ls ss low h
+
+  -- in a world before, and behind an instruction
+  module _ (C : Ctx) (i : Basic) (before : World) (l l' vs ws : List Value) (g : World) (e : effect i before l vs ≡ gives g l' ws) where
+    abbrev Behind : Bool → List Value → Type 0
+    Behind q ex = HasLength C ex (told_length before.memory) → HasLength C (lengthy q C (told_length g.memory) ex) (told_length g.memory)
+
+    pub has_lengthy : (ex : List Value) → types ex ≡ added C.slots → Behind (grows i) ex
+    has_lengthy ex room = by_growth (growth i)
       where
-        grew : (m : Memory) → g.memory ≡ Some m → Goes (set_length src k) (told_length before.memory)
-        grew m there =
-            let to = set_length_to m (told_length before.memory) there (subst MemoryFits there mf) in
-            subst (λ (n : ℕ). To M' 0 7 (st X tl s (set_length src k) (with_added M g (b ∷ values.I64 (told_length before.memory) ∷ [])) co) (st X tl s k (with_added M g (b ∷ values.I64 n ∷ [])) co)) (sym (ap told_length there)) (weaken M' to (omega arith) (omega arith))
-
-        by_growth : (i ≡ MemoryGrow) ⊎ (grows i ≡ false) → Goes (lengthened (grows i) C k) (told_length before.memory)
-        by_growth (inl same) =
-            let h = subst (Grown before l) (ap (λ i. effect i before l vs) (sym same) ∙ e) (grown_has before l vs) in
-            subst (λ i. Goes (lengthened (grows i) C k) (told_length before.memory)) (sym same) (subst (λ z. Goes (set_length z k) (told_length before.memory)) (sym is) (grew h.0 h.1))
+        by_growth : (i ≡ MemoryGrow) ⊎ (grows i ≡ false) → Behind (grows i) ex
+        by_growth (inl same) = subst (λ i. Behind (grows i) ex) (sym same) (λ has. has_told C (told_length g.memory) ex room)
         by_growth (inr stays) =
             let kept : told_length g.memory ≡ told_length before.memory = ap less_word (subst (Keeps before.memory) e (keeps_as before l i (one_by_one i) stays vs)) in
-            subst (λ q. Goes (lengthened q C k) (told_length before.memory)) (sym stays) (subst (λ n. Goes k n) kept (weaken M' (still M' _) (omega arith) (omega arith)))
+            subst (λ q. Behind q ex) (sym stays) (λ has. subst (HasLength C ex) (sym kept) has)
+
+  module _ (M : Engine) (C : Ctx) (X : Shell) (l ex s : List Value) (k : Nodes) (g : World) (co : List CollectorCall) (b : Value) (size : length C.locals ≡ length l) (room : types ex ≡ added C.slots) (fl : flag_of C.source ≡ length g.globals) where
+    pub measure_to : (q : Bool) → To M' 0 2 (st X (l ++ ex) s (measure q C k) (flagged M g b) co) (st X (l ++ remeasured q C (told_length g.memory) ex) s k (flagged M g b) co)
+    measure_to false = weaken M' (still M' _) (omega arith) (omega arith)
+    measure_to true =
+        let n = values.I64 (told_length g.memory) in
+        let gb = flagged M g b in
+        let k1 = set C (length_at C) k in
+        let there = get_second g.globals (flag_of C.source) b n [] fl in
+        let s1 : To M' 1 1 (st X (l ++ ex) s (measure true C k) gb co) (st X (l ++ ex) (n ∷ s) k1 gb co) = step_plain M' (GlobalGet (length_of C.source)) [] s (l ++ ex) gb (n ∷ []) (n ∷ s) refl (rw there refl) refl in
+        let s2 : To M' 1 1 (st X (l ++ ex) (n ∷ s) k1 gb co) (st X (l ++ slice_set ex (length_at C) n) s k gb co) = added_set M' C l size ex (length_at C) I64 n (length_there C ex room) refl in
+        weaken M' (seq M' s1 s2) (omega arith) (omega arith)
+
+    -- behind what may have made the memory longer
+    pub renew_both_to : HasLeast C.source.memories g.memory → MemoryFits g.memory → To M' 0 9 (st X (l ++ ex) s (renew_both C k) (flagged M g b) co) (st X (l ++ remeasured (measured C) C (told_length g.memory) ex) s k (flagged M g b) co)
+    renew_both_to has mf =
+        let s1 = renew_to M C.source X (l ++ ex) s (measure (measured C) C k) g co b fl C.source.memories has mf in
+        weaken M' (seq M' s1 (measure_to (measured C))) (omega arith) (omega arith)
+
+    -- this code leads, from another length in the global, to the length there is
+    abbrev Goes : Nodes → ℕ → List Value → Type 0
+    Goes code old ex' = To M' 0 9 (st X (l ++ ex) s code (with_added M g (b ∷ values.I64 old ∷ [])) co) (st X (l ++ ex') s k (flagged M g b) co)
+
+    -- behind an instruction, by whether it changes the length
+    pub lengthened_to : (i : Basic) (before : World) (l0 l' vs ws : List Value) → effect i before l0 vs ≡ gives g l' ws → MemoryFits g.memory → Goes (lengthened (grows i) C k) (told_length before.memory) (lengthy (grows i) C (told_length g.memory) ex)
+    lengthened_to i before l0 l' vs ws e mf = by_growth (growth i)
+      where
+        old : ℕ
+        old = told_length before.memory
+
+        n : ℕ
+        n = told_length g.memory
+
+        grew : (m : Memory) → g.memory ≡ Some m → Goes (set_both C k) old (remeasured (measured C) C n ex)
+        grew m there =
+            let k1 = measure (measured C) C k in
+            let to = set_length_to M C.source X (l ++ ex) s k1 g co b fl m old there (subst MemoryFits there mf) in
+            let s1 : To M' 7 7 (st X (l ++ ex) s (set_both C k) (with_added M g (b ∷ values.I64 old ∷ [])) co) (st X (l ++ ex) s k1 (flagged M g b) co) = subst (λ (n : ℕ). To M' 7 7 (st X (l ++ ex) s (set_both C k) (with_added M g (b ∷ values.I64 old ∷ [])) co) (st X (l ++ ex) s k1 (with_added M g (b ∷ values.I64 n ∷ [])) co)) (sym (ap told_length there)) to in
+            weaken M' (seq M' s1 (measure_to (measured C))) (omega arith) (omega arith)
+
+        by_growth : (i ≡ MemoryGrow) ⊎ (grows i ≡ false) → Goes (lengthened (grows i) C k) old (lengthy (grows i) C n ex)
+        by_growth (inl same) =
+            let h = subst (Grown before l0) (ap (λ i. effect i before l0 vs) (sym same) ∙ e) (grown_has before l0 vs) in
+            subst (λ i. Goes (lengthened (grows i) C k) old (lengthy (grows i) C n ex)) (sym same) (grew h.0 h.1)
+        by_growth (inr stays) =
+            let kept : n ≡ old = ap less_word (subst (Keeps before.memory) e (keeps_as before l0 i (one_by_one i) stays vs)) in
+            subst (λ q. Goes (lengthened q C k) old (lengthy q C n ex)) (sym stays) (subst (λ n. Goes k n ex) kept (weaken M' (still M' _) (omega arith) (omega arith)))

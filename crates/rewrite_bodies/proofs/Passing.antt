@@ -1,5 +1,6 @@
 -- Operands that the next instruction takes, and that are kept nowhere.
-use Rattle.std.proofs.Common.{◌≡◌, ℕ, zero, suc, ◌≤◌, not, List, [], ◌∷◌, ◌++◌, length, Option, Some, None, Bool, true, false, refl, sym, subst, arith, slice_set, option_map, length-append, ◌&&◌}
+use Rattle.std.proofs.Common.{◌≡◌, ℕ, zero, suc, ◌≤◌, not, List, [], ◌∷◌, ◌++◌, length, Option, Some, None, Bool, true, false, refl, sym, subst, arith, slice_set, option_map, length-append, ◌&&◌, ◌≢◌, ◌∙◌}
+use Rattle.std.proofs.lemmas.Bool.{and_parts}
 use Rattle.wasm_syntax.specs.declared.value.ValType.{ValType}
 use Rattle.wasm_syntax.specs.declared.value.Value.{Value}
 use Rattle.wasm_syntax.specs.declared.value.Value.TheVariants as values
@@ -11,13 +12,14 @@ use Rattle.wasm_syntax.specs.declared.host.CollectorCall.{CollectorCall}
 use Rattle.wasm_syntax.specs.Effect.{takes}
 use Rattle.wasm_syntax.specs.Machine.{Label, label, Engine, parts, cut, exactly}
 use Rattle.wasm_syntax.proofs.Types.{same_type_is}
-use Rattle.rewrite_bodies.specs.calls.Slots.{Place, Spilled, Ctx, slot, offset_at, added, less, grown}
+use Rattle.rewrite_bodies.specs.calls.Slots.{Place, Spilled, Ctx, slot, offset_at, added, less, grown, length_at, is_any, measured}
 use Rattle.rewrite_bodies.specs.calls.Pieces.{keep}
+use Rattle.rewrite_bodies.specs.calls.Guards.{can_trap}
 use Rattle.rewrite_bodies.specs.calls.Rewrite.{any, passes}
-use Rattle.rewrite_bodies.specs.calls.Facts.{needs}
-use Rattle.rewrite_bodies.specs.calls.Agreement.{Holds, HoldsBut, awaits, pending, joined, FitsLabels, FitsOpen}
+use Rattle.rewrite_bodies.specs.calls.Facts.{needs, among}
+use Rattle.rewrite_bodies.specs.calls.Agreement.{Holds, HoldsBut, awaits, pending, joined, FitsLabels, FitsOpen, FitsIn, HasLength, Runs}
 use Rattle.rewrite_bodies.specs.calls.Steps.{To, Shell, st}
-use Rattle.rewrite_bodies.proofs.Run.{stored, HasPlace, if_same, types-stored, Clear, clear_less, clear_offset, more_parts, still, weaken, kept_to, less_holds, holds_put}
+use Rattle.rewrite_bodies.proofs.Run.{stored, HasPlace, if_same, types-stored, Clear, clear_less, clear_offset, more_parts, still, weaken, kept_to, less_holds, holds_put, stored_other, slice_get-put_other, length_no_slot}
 use Rattle.rewrite_bodies.proofs.Parts.{Match, place_of, match_of, fits_put, fits_stored, settle}
 use Rattle.rewrite_bodies.proofs.Landed.{marked}
 
@@ -39,6 +41,14 @@ passes_some C o i rest p = first (any (takes i)) (not (needs C o i)) p
     first true b e = refl
     first false b e = e
 
+-- and the function keeps the length of the memory
+pub needs_measured : (C : Ctx) (o : ℕ) (i : Basic) → needs C o i ≡ true → measured C ≡ true
+needs_measured C o i n = by_list C.exposed (and_parts (can_trap i) (among o C.exposed) n).1
+  where
+    by_list : (os : List ℕ) → among o os ≡ true → is_any os ≡ true
+    by_list [] e = absurd (cc)
+    by_list (p ∷ os) e = refl
+
 -- ---- what holds of them
 
 pub loosened : (C : Ctx) (p : Bool) (l ex : List Value) (js es : List Place) (ops : List Value) → Holds C l ex js ops es → HoldsBut C p l ex js ops es
@@ -49,12 +59,18 @@ loosened C true l ex js (e ∷ es) [] h = absurd h
 loosened C true l ex js (e ∷ es) (v ∷ ops) h = (place_of C l ex (length (es ++ js)) e v h.0, h.1)
 
 -- a label that waited for nothing goes on
-pub as_open : (C : Ctx) (l ex : List Value) (L : Label) (Ls : List Label) (e : List Place) (ss : List (List Place)) → FitsLabels C l ex None (L ∷ Ls) (e ∷ ss) → FitsOpen C l ex None (L ∷ Ls) (e ∷ ss)
-as_open C l ex L Ls e ss h = (loosened C (passes C L.nodes) l ex (joined ss) e L.operands h.0, h.1, h.2, h.3, h.4)
+pub as_open : (C : Ctx) (l ex : List Value) (n : ℕ) (L : Label) (Ls : List Label) (e : List Place) (ss : List (List Place)) → HasLength C ex n → FitsLabels C l ex None (L ∷ Ls) (e ∷ ss) → FitsOpen C l ex (Runs n) (L ∷ Ls) (e ∷ ss)
+as_open C l ex n L Ls e ss has h = (loosened C (passes C L.nodes) l ex (joined ss) e L.operands h.0, has, h.2, h.3, h.4)
 
 -- all are kept where none passes
-pub kept_all : (C : Ctx) (l ex : List Value) (L : Label) (Ls : List Label) (e : List Place) (ss : List (List Place)) → passes C L.nodes ≡ false → FitsOpen C l ex None (L ∷ Ls) (e ∷ ss) → FitsLabels C l ex None (L ∷ Ls) (e ∷ ss)
-kept_all C l ex L Ls e ss p h = (subst (λ q. HoldsBut C q l ex (joined ss) L.operands e) p h.0, h.1, h.2, h.3, h.4)
+pub kept_all : (C : Ctx) (l ex : List Value) (n : ℕ) (L : Label) (Ls : List Label) (e : List Place) (ss : List (List Place)) → passes C L.nodes ≡ false → FitsOpen C l ex (Runs n) (L ∷ Ls) (e ∷ ss) → FitsLabels C l ex None (L ∷ Ls) (e ∷ ss)
+kept_all C l ex n L Ls e ss p h = (subst (λ q. HoldsBut C q l ex (joined ss) L.operands e) p h.0, tt, h.2, h.3, h.4)
+
+-- the length of the memory is there
+pub has_open : (C : Ctx) (l ex : List Value) (n : ℕ) (Ls : List Label) (ss : List (List Place)) → FitsOpen C l ex (Runs n) Ls ss → HasLength C ex n
+has_open C l ex n [] ss h = absurd h
+has_open C l ex n (L ∷ Ls) [] h = absurd h
+has_open C l ex n (L ∷ Ls) (e ∷ ss) h = h.1
 
 -- what is left of them when so many are taken
 pub less_but : (C : Ctx) (p : Bool) (l ex : List Value) (m : ℕ) (js es : List Place) (ops vs below : List Value) → (p ≡ true → any m ≡ true) → HoldsBut C p l ex js ops es → cut m ops ≡ parts vs below → (es' : List Place) × (less m (es ++ js) ≡ es' ++ js) × Holds C l ex js below es'
@@ -79,7 +95,7 @@ match_but C true l ex (suc m) js (e ∷ es) (v ∷ ops) vs below some h c =
 
 -- ---- under a write outside of their slots
 
-but_put : (C : Ctx) (p : Bool) (l ex : List Value) (js es : List Place) (ops : List Value) (i : ℕ) (w : Value) → Clear C (length (es ++ js)) i → HoldsBut C p l ex js ops es → HoldsBut C p l (slice_set ex i w) js ops es
+pub but_put : (C : Ctx) (p : Bool) (l ex : List Value) (js es : List Place) (ops : List Value) (i : ℕ) (w : Value) → Clear C (length (es ++ js)) i → HoldsBut C p l ex js ops es → HoldsBut C p l (slice_set ex i w) js ops es
 but_put C false l ex js es ops i w clear h = holds_put C l ex js es ops i w clear h
 but_put C true l ex js [] [] i w clear h = tt
 but_put C true l ex js [] (v ∷ ops) i w clear h = absurd h
@@ -88,15 +104,18 @@ but_put C true l ex js (e ∷ es) (v ∷ ops) i w clear h =
     let n = length (es ++ js) in
     (h.0, holds_put C l ex js es ops i w (clear_less C n (suc n) i (omega arith) clear) h.1)
 
-pub open_put : (C : Ctx) (l ex : List Value) (L : Label) (Ls : List Label) (e : List Place) (ss : List (List Place)) (i : ℕ) (w : Value) → Clear C (length (e ++ joined ss)) i → FitsOpen C l ex None (L ∷ Ls) (e ∷ ss) → FitsOpen C l (slice_set ex i w) None (L ∷ Ls) (e ∷ ss)
-open_put C l ex L Ls e ss i w clear h =
+-- and of the length
+pub open_put : (C : Ctx) (l ex : List Value) (n : ℕ) (L : Label) (Ls : List Label) (e : List Place) (ss : List (List Place)) (i : ℕ) (w : Value) → Clear C (length (e ++ joined ss)) i → length_at C ≢ i → FitsOpen C l ex (Runs n) (L ∷ Ls) (e ∷ ss) → FitsOpen C l (slice_set ex i w) (Runs n) (L ∷ Ls) (e ∷ ss)
+open_put C l ex n L Ls e ss i w clear ne h =
     let inner = clear_less C (length (joined ss)) (length (e ++ joined ss)) i (omega (arith, length-append e (joined ss))) clear in
-    (but_put C (passes C L.nodes) l ex (joined ss) e L.operands i w clear h.0, h.1, h.2, h.3, fits_put C [] ex (awaits (pending L.kind)) Ls ss i w inner h.4)
+    (but_put C (passes C L.nodes) l ex (joined ss) e L.operands i w clear h.0, (λ q. slice_get-put_other ex (length_at C) i w ne ∙ h.1 q), h.2, h.3, fits_put C [] ex (awaits (pending L.kind)) Ls ss i w inner h.4)
 
 -- in front of a guard
-pub open_marked : (q : Option ℕ) (C : Ctx) (o : ℕ) (l ex : List Value) (L : Label) (Ls : List Label) (e : List Place) (ss : List (List Place)) → length (e ++ joined ss) ≤ C.slots → FitsOpen C l ex None (L ∷ Ls) (e ∷ ss) → FitsOpen C l (marked q C o ex) None (L ∷ Ls) (e ∷ ss)
-open_marked None C o l ex L Ls e ss low h = h
-open_marked (Some n) C o l ex L Ls e ss low h = open_put C l ex L Ls e ss (offset_at C) (values.I32 o) (clear_offset C (length (e ++ joined ss)) (omega (arith, low))) h
+pub open_marked : (q : Option ℕ) (C : Ctx) (o : ℕ) (l ex : List Value) (n : ℕ) (L : Label) (Ls : List Label) (e : List Place) (ss : List (List Place)) → length (e ++ joined ss) ≤ C.slots → FitsOpen C l ex (Runs n) (L ∷ Ls) (e ∷ ss) → FitsOpen C l (marked q C o ex) (Runs n) (L ∷ Ls) (e ∷ ss)
+open_marked None C o l ex n L Ls e ss low h = h
+open_marked (Some m) C o l ex n L Ls e ss low h =
+    let ne : length_at C ≢ offset_at C = omega arith in
+    open_put C l ex n L Ls e ss (offset_at C) (values.I32 o) (clear_offset C (length (e ++ joined ss)) (omega (arith, low))) ne h
 
 -- ---- results that are kept, or pass
 
@@ -112,17 +131,25 @@ pub fits_unless : (p : Bool) (C : Ctx) (l ex : List Value) (a r : Option ValType
 fits_unless true C l ex a r Ls ss i vs clear h = h
 fits_unless false C l ex a r Ls ss i vs clear h = fits_stored C l ex a r Ls ss i vs clear h
 
+-- the length stays
+pub has_unless : (p : Bool) (C : Ctx) (ex : List Value) (n : ℕ) (r : Option ValType) (es : List Place) (vs : List Value) → FitsIn C r es → HasLength C ex n → HasLength C (stored_unless p r (λ t. slot C.slots t (length es)) vs ex) n
+has_unless true C ex n r es vs fit has = has
+has_unless false C ex n None es vs fit has = has
+has_unless false C ex n (Some t) es vs fit has =
+    λ q. stored_other (Some t) (λ t. slot C.slots t (length es)) vs ex (length_at C) (λ u. length_no_slot C (length es) u (omega (arith, fit))) ∙ has q
+
 -- awaited results have arrived
-pub arrived : (p : Bool) (C : Ctx) (l ex : List Value) (r : Option ValType) (L : Label) (Ls : List Label) (e : List Place) (ss : List (List Place)) (vs : List Value) → passes C L.nodes ≡ p → types ex ≡ added C.slots → exactly r vs ≡ Some vs → FitsLabels C l ex r (L ∷ Ls) (e ∷ ss) → FitsOpen C l (stored_unless p r (λ t. slot C.slots t (length (e ++ joined ss))) vs ex) None (label (vs ++ L.operands) L.nodes L.end L.kind ∷ Ls) (grown r e ∷ ss)
-arrived false C l ex r L Ls e ss vs is ty x h =
-    as_open C l (stored r (λ t. slot C.slots t (length (e ++ joined ss))) vs ex) (label (vs ++ L.operands) L.nodes L.end L.kind) Ls (grown r e) ss (settle C l ex r L Ls e ss vs ty x h)
-arrived true C l ex None L Ls e ss [] is ty x h = as_open C l ex L Ls e ss h
-arrived true C l ex None L Ls e ss (_ ∷ _) is ty x h = absurd (cc)
-arrived true C l ex (Some t) L Ls e ss [] is ty x h = absurd (cc)
-arrived true C l ex (Some t) L Ls e ss (v ∷ []) is ty x h =
+pub arrived : (p : Bool) (C : Ctx) (l ex : List Value) (n : ℕ) (r : Option ValType) (L : Label) (Ls : List Label) (e : List Place) (ss : List (List Place)) (vs : List Value) → passes C L.nodes ≡ p → types ex ≡ added C.slots → exactly r vs ≡ Some vs → HasLength C ex n → FitsLabels C l ex r (L ∷ Ls) (e ∷ ss) → FitsOpen C l (stored_unless p r (λ t. slot C.slots t (length (e ++ joined ss))) vs ex) (Runs n) (label (vs ++ L.operands) L.nodes L.end L.kind ∷ Ls) (grown r e ∷ ss)
+arrived false C l ex n r L Ls e ss vs is ty x has h =
+    as_open C l (stored r (λ t. slot C.slots t (length (e ++ joined ss))) vs ex) n (label (vs ++ L.operands) L.nodes L.end L.kind) Ls (grown r e) ss
+    (has_unless false C ex n r (e ++ joined ss) vs h.1 has) (settle C l ex r L Ls e ss vs ty x h)
+arrived true C l ex n None L Ls e ss [] is ty x has h = as_open C l ex n L Ls e ss has h
+arrived true C l ex n None L Ls e ss (_ ∷ _) is ty x has h = absurd (cc)
+arrived true C l ex n (Some t) L Ls e ss [] is ty x has h = absurd (cc)
+arrived true C l ex n (Some t) L Ls e ss (v ∷ []) is ty x has h =
     let d : type_of v ≡ t = same_type_is (type_of v) t (if_same (same_type (type_of v) t) (v ∷ []) (v ∷ []) x).0 in
-    (subst (λ q. HoldsBut C q l ex (joined ss) (v ∷ L.operands) (Spilled t ∷ e)) (sym is) (d, h.0), tt, h.2, h.3, h.4)
-arrived true C l ex (Some t) L Ls e ss (v ∷ w ∷ vs) is ty x h = absurd (cc)
+    (subst (λ q. HoldsBut C q l ex (joined ss) (v ∷ L.operands) (Spilled t ∷ e)) (sym is) (d, h.0), has, h.2, h.3, h.4)
+arrived true C l ex n (Some t) L Ls e ss (v ∷ w ∷ vs) is ty x has h = absurd (cc)
 
 module _ (M : Engine) (C : Ctx) (l : List Value) (size : length C.locals ≡ length l) where
   pub kept_unless : (p : Bool) {X : Shell} {g : World} {co : List CollectorCall} (ex : List Value) (r : Option ValType) (es : List Place) (vs s : List Value) (k : Nodes) → HasPlace r (λ t. slot C.slots t (length es)) ex → exactly r vs ≡ Some vs → To M 0 1 (st X (l ++ ex) (vs ++ s) (keep p C (option_map Spilled r) es k) g co) (st X (l ++ stored_unless p r (λ t. slot C.slots t (length es)) vs ex) (vs ++ s) k g co)

@@ -12,7 +12,7 @@ use Rattle.wasm_syntax.specs.Tree.{Nodes, basic}
 use Rattle.wasm_syntax.specs.Host.{World}
 use Rattle.wasm_syntax.specs.declared.host.CollectorCall.{CollectorCall}
 use Rattle.wasm_syntax.specs.Machine.{Config, Engine, Stepped, next, ends, traps, no_reply, bad_reply, stuck, Cut, short, parts, one_more, cut, exactly, step}
-use Rattle.rewrite_bodies.specs.calls.Slots.{Place, Spilled, Known, Copied, Ctx, slot, kind_at, offset_at, added, less}
+use Rattle.rewrite_bodies.specs.calls.Slots.{Place, Spilled, Known, Copied, Ctx, slot, kind_at, offset_at, added, less, length_at}
 use Rattle.rewrite_bodies.specs.calls.Pieces.{get, set, const, fetch, load, keep, store, reload, drops}
 use Rattle.rewrite_bodies.specs.calls.Agreement.{One, Holds}
 use Rattle.rewrite_bodies.specs.calls.Steps.{went, run, Gets, To, Shell, st}
@@ -60,19 +60,25 @@ same_at : (n i : ℕ) (t : ValType) → i < n → slice_get (replicate n t) i �
 same_at n i t lt = slice_get-get_or (replicate n t) i t (omega (arith, lt, length-replicate {A = ValType} n t)) ∙ ap Some (get_or-replicate n i t t lt)
 
 added_i32 : (n i : ℕ) → i < n + 3 → slice_get (added n) i ≡ Some I32
-added_i32 n i lt = get_front (replicate (n + 3) I32) (replicate (n + 1) I64) i I32 (same_at (n + 3) i I32 lt)
+added_i32 n i lt = get_front (replicate (n + 3) I32) (replicate (n + 2) I64) i I32 (same_at (n + 3) i I32 lt)
 
 pub added_at : (n h : ℕ) (t : ValType) → h ≤ n → slice_get (added n) (slot n t h) ≡ Some t
 added_at n h I32 le = added_i32 n h (omega (arith, le))
 added_at n h I64 le =
-    slice_get-append (replicate (n + 3) I32) (replicate (n + 1) I64) (n + 3) h (sym (length-replicate {A = ValType} (n + 3) I32))
-    ∙ same_at (n + 1) h I64 (omega (arith, le))
+    slice_get-append (replicate (n + 3) I32) (replicate (n + 2) I64) (n + 3) h (sym (length-replicate {A = ValType} (n + 3) I32))
+    ∙ same_at (n + 2) h I64 (omega (arith, le))
 
 pub added_kind : (n : ℕ) → slice_get (added n) (n + 1) ≡ Some I32
 added_kind n = added_i32 n (n + 1) (omega arith)
 
 pub added_offset : (n : ℕ) → slice_get (added n) (n + 2) ≡ Some I32
 added_offset n = added_i32 n (n + 2) (omega arith)
+
+pub added_length : (n : ℕ) → slice_get (added n) (2 * n + 4) ≡ Some I64
+added_length n =
+    let at : 2 * n + 4 ≡ n + 3 + (n + 1) = omega arith in
+    ap (slice_get (added n)) at ∙ slice_get-append (replicate (n + 3) I32) (replicate (n + 2) I64) (n + 3) (n + 1) (sym (length-replicate {A = ValType} (n + 3) I32))
+    ∙ same_at (n + 2) (n + 1) I64 (omega arith)
 
 -- the added locals after results went to a place
 abbrev pub stored : Option ValType → (ValType → ℕ) → List Value → List Value → List Value
@@ -101,6 +107,11 @@ offset_no_slot : (C : Ctx) (h : ℕ) (t : ValType) → h ≤ C.slots → offset_
 offset_no_slot C h I32 le = omega (arith, le)
 offset_no_slot C h I64 le = omega arith
 
+-- nor has the length
+pub length_no_slot : (C : Ctx) (h : ℕ) (t : ValType) → h ≤ C.slots → length_at C ≢ slot C.slots t h
+length_no_slot C h I32 le = omega (arith, le)
+length_no_slot C h I64 le = omega (arith, le)
+
 -- no height below this one has its slot there
 abbrev pub Clear : Ctx → ℕ → ℕ → Type 0
 Clear C n i = (t : ValType) (h : ℕ) → h < n → slot C.slots t h ≢ i
@@ -116,6 +127,9 @@ clear_kind C n le = λ t h lt e. kind_no_slot C h t (omega (arith, lt, le)) (sym
 
 pub clear_offset : (C : Ctx) (n : ℕ) → n ≤ suc C.slots → Clear C n (offset_at C)
 clear_offset C n le = λ t h lt e. offset_no_slot C h t (omega (arith, lt, le)) (sym e)
+
+pub clear_length : (C : Ctx) (n : ℕ) → n ≤ suc C.slots → Clear C n (length_at C)
+clear_length C n le = λ t h lt e. length_no_slot C h t (omega (arith, lt, le)) (sym e)
 
 -- there is a place for the result
 abbrev pub HasPlace : Option ValType → (ValType → ℕ) → List Value → Type 0

@@ -25,16 +25,16 @@ use Rattle.wasm_syntax.specs.Typing.{Context, Arrow, ◌⇒◌, BasicTypes, Jump
 use Rattle.wasm_syntax.specs.Typing as typing
 use Rattle.rewrite_bodies.specs.Numbering.{import_count, mapped, frame_import, frame_type, flag_of, doubles}
 use Rattle.wasm_syntax.specs.Run.{table_min}
-use Rattle.rewrite_bodies.specs.calls.Slots.{Place, Spilled, Known, Copied, place_type, Ctx, kind_at, offset_at, added, less, pushed, grown, uncopied, without, under, second_type, result_type, result_place, freed, after_plain, Landing, freed_at, local_written}
+use Rattle.rewrite_bodies.specs.calls.Slots.{Place, Spilled, Known, Copied, place_type, Ctx, kind_at, offset_at, added, less, pushed, grown, uncopied, without, under, second_type, result_type, result_place, freed, after_plain, Landing, freed_at, local_written, measured}
 use Rattle.rewrite_bodies.specs.calls.Pieces.{const, get, set, i32, call, if_any, fetch, load, keep, store, reload, drops}
-use Rattle.rewrite_bodies.specs.calls.Guards.{guard, can_trap, kind, helper_type, renew}
+use Rattle.rewrite_bodies.specs.calls.Guards.{guard, can_trap, kind, helper_type, renew_both}
 use Rattle.rewrite_bodies.specs.calls.Rewrite.{passes, guarded, tested, free, plain, with_result, after_direct, call_code, helper_of, hand_top, test_both, past_shown, indirect_code, control, rewrite, hand_locals, zero_result, exit_code, body, checked, hand_carried, landing_code, nested, laid, free_at, grows, lengthened}
 use Rattle.rewrite_bodies.specs.calls.Agreement.{FitsIn, Room_call, Room, Room_jump}
 use Rattle.rewrite_bodies.specs.calls.Typed.{Info, in_block, in_loop, in_body, carries, Own, AllOwn, Offers, original, rewritten}
 use Rattle.rewrite_bodies.proofs.Run.{added_kind, added_offset, slice_get-append}
 use Rattle.rewrite_bodies.proofs.Sim.{grown-append}
 use Rattle.rewrite_bodies.proofs.Unwind.{less_shorter}
-use Rattle.rewrite_bodies.proofs.TypedPieces.{Ok, ok_basic, ok_binary, ok_const, ok_eqz, IsExit, at_labels, ok_if, ok_call, ok_get, ok_set, ok_fetch, ok_load, ok_store, ok_keep, ok_keep_result, ok_reload, ok_drops, ok_spill, ok_hand_value, ok_tested, ok_test_flag, ok_test_both, ok_kind_signed, ok_landing, ok_branch, ok_hand, HasMemory, ok_renew, ok_lengthened}
+use Rattle.rewrite_bodies.proofs.TypedPieces.{Ok, ok_basic, ok_binary, ok_const, ok_eqz, IsExit, at_labels, ok_if, ok_call, ok_get, ok_set, ok_fetch, ok_load, ok_store, ok_keep, ok_keep_result, ok_reload, ok_drops, ok_spill, ok_hand_value, ok_tested, ok_test_flag, ok_test_both, ok_measure, ok_kind_signed, ok_landing, ok_branch, ok_hand, HasMemory, ok_renew, ok_lengthened}
 use Rattle.rewrite_bodies.proofs.TypedGuards.{any_has, one_is, guard_ok}
 use Rattle.rewrite_bodies.proofs.Copies.{Fixed, fixed_under, without_append, freed_append, pushed_append}
 use Rattle.wasm_laws.proofs.Progress.{takes_len}
@@ -394,8 +394,8 @@ module _ (C : Ctx) (m : Module) (locals : List ValType) (off : Offers C m locals
   -- ---- calls
 
   after_ok : (ls : List Info) (z s : List ValType) (q : Bool) (r : Option ValType) (left : List Place) (o : ℕ) (rest : Nodes) → length left ≤ C.slots → AllOwn C left → FitsIn C r left → Ok (at (inside ls)) z (option_to_list r ++ s) (rewrite C (length ls) (grown r left) rest) → Ok (at (inside ls)) z (option_to_list r ++ s) (after_direct q C (length ls) r left o (passes C rest) (λ es'. rewrite C (length ls) es' rest))
-  after_ok ls z s true r left o rest le w fit k = ok_renew C m locals off returns (ok_keep_result C m locals off returns (passes C rest) s r left fit k)
-  after_ok ls z s false r left o rest le w fit k = ok_keep_result C m locals off returns (passes C rest) s r left fit (ok_test_flag C m locals off returns (length ls) left o le w (exit_there ls) (λ n is. land_there ls (landing_behind (part_of C.locals o) left) n is) k)
+  after_ok ls z s true r left o rest le w fit k = ok_keep_result C m locals off returns (passes C rest) s r left fit (ok_renew C m locals off returns k)
+  after_ok ls z s false r left o rest le w fit k = ok_keep_result C m locals off returns (passes C rest) s r left fit (ok_test_flag C m locals off returns (length ls) left o le w (exit_there ls) (λ n is. land_there ls (landing_behind (part_of C.locals o) left) n is) (ok_measure C m locals off returns (measured C) k))
 
   -- what a call leaves, and its result
   pub record Called (type : FuncType) (own js : List Place) (rest : Nodes) (ls : List Info) (z below : List ValType) : Type 0 where
@@ -465,7 +465,7 @@ module _ (C : Ctx) (m : Module) (locals : List ValType) (off : Offers C m locals
       let called_ : Ok (at ([] ∷ labels)) [] (I32 ∷ (reverse type.params ++ [])) inner = ok_past (doubles C.source) entered in
       let arm : Ok (at ([] ∷ labels)) [] [] (load C (suc n) (p ∷ es) inner) = ok_load C m locals off returns (suc n) (p ∷ es) inner rm.0 w (subst₂ (λ x y. Ok (at ([] ∷ labels)) [] (x ∷ (y ++ [])) inner) (sym pt) (sym c.taken) called_) in
       let goes = subst (λ x. Ok (at labels) z (x ++ h.3.below) k) one c.goes in
-      let kr = renew C.source (reload C r left k) in
+      let kr = renew_both C (reload C r left k) in
       let back : Ok (at labels) z h.3.below kr = ok_renew C m locals off returns (ok_reload C m locals off returns r left room.0 goes) in
       let count : length (I32 ∷ reverse type.params) ≡ suc n = ap suc (length-reverse type.params) in
       let drop0 : Ok (at labels) z (I32 ∷ (reverse type.params ++ h.3.below)) (drops (suc n) kr) = subst (λ x. Ok (at labels) z (I32 ∷ (reverse type.params ++ h.3.below)) (drops x kr)) count (ok_drops C m locals off returns (I32 ∷ reverse type.params) back) in
@@ -694,7 +694,7 @@ module _ (C : Ctx) (m : Module) (locals : List ValType) (off : Offers C m locals
   laid_ok nodes fine rm ty =
       let a = rewrite_ok C m locals off returns refl nodes (in_body C.result ∷ []) [] [] [] returns refl tt tt rm ty in
       let core = nested_ok C.landings (block 0 C.result (rewrite C 1 [] nodes) 0 (jump 0 Return stop)) fine (λ z. record { typed = (a.typed, (subst (λ s. Ok (at_body (outside C m locals off returns C.landings)) z s (jump 0 Return stop)) (sym (append-nil returns)) ok_return).typed) }) in
-      (core.typed, (exit_ok (returns ∷ [])).typed)
+      (ok_measure C m locals off returns (measured C) (record { typed = (core.typed, (exit_ok (returns ∷ [])).typed) })).typed
 
 -- the rewritten module offers the same with landings
 pub offers_landed : (C : Ctx) (m : Module) (locals : List ValType) (os : List ℕ) (xs : List Landing) → Offers C m locals → Offers (landed C os xs) m locals

@@ -20,15 +20,15 @@ use Rattle.wasm_syntax.specs.Numbers.{type_of, value}
 use Rattle.wasm_syntax.specs.Tree.{Br, Nodes, stop, basic, jump, BrIf}
 use Rattle.wasm_syntax.specs.Module.{type_at}
 use Rattle.wasm_syntax.specs.Typing.{Context, Arrow, ◌⇒◌, arrow, Types}
-use Rattle.rewrite_bodies.specs.calls.Slots.{Place, Spilled, Known, Copied, place_type, Ctx, slot, kind_at, offset_at, added}
+use Rattle.rewrite_bodies.specs.calls.Slots.{Place, Spilled, Known, Copied, place_type, Ctx, slot, kind_at, offset_at, added, length_at, measured}
 use Rattle.rewrite_bodies.specs.Numbering.{value_import, flag_of}
 use Rattle.rewrite_bodies.specs.calls.Pieces.{get, set, const, i32, call, if_any, fetch, load, keep_slot, keep, store, reload, spill_one, spill, drops}
-use Rattle.rewrite_bodies.specs.calls.Guards.{less_word, guard_zero, guard_signed, past_end, beyond_word, guard_memory, range_test, guard_copy, guard_fill, kind_signed, length_of, get_length, set_length, renewed, renew}
+use Rattle.rewrite_bodies.specs.calls.Guards.{less_word, guard_zero, guard_signed, past_end, beyond_word, guard_memory, range_test, guard_copy, guard_fill, kind_signed, length_of, measure, get_length, set_length, renewed, renew_both}
 use Rattle.rewrite_bodies.specs.calls.Rewrite.{hand_value, hand, hand_top, to_exit, unwind, test_flag, test_both, unwind_kind, tested, checked, get_flag, lengthened}
 use Rattle.rewrite_bodies.specs.calls.Agreement.{FitsIn}
 use Rattle.rewrite_bodies.specs.calls.Typed.{Own, AllOwn, Offers}
 use Rattle.pm_text.proofs.Lists.{get_front}
-use Rattle.rewrite_bodies.proofs.Run.{slice_get-append, added_at, added_kind, added_offset}
+use Rattle.rewrite_bodies.proofs.Run.{slice_get-append, added_at, added_kind, added_offset, added_length}
 
 -- the nodes take these types to those
 pub record Ok (c : Context) (after before : List ValType) (nodes : Nodes) : Type 0 where
@@ -244,18 +244,24 @@ module _ (C : Ctx) (m : Module) (locals : List ValType) (off : Offers C m locals
       ok_place a t h (omega (arith, le)) wa ea (ok_constant t _ (ok_compare t Eq (ok_place b t (suc h) le wb eb (ok_constant t _ (ok_compare t Eq (ok_binary I32 And
       (ok_guard_zero t b (suc h) le wb eb (ok_binary I32 Or g))))))))
 
-  ok_length : {labels : List (List ValType)} {z s : List ValType} {k : Nodes} → Ok (at labels) z (I64 ∷ s) k → Ok (at labels) z s (get_length C.source k)
-  ok_length {s = s} h = ok_basic s (GlobalGet (length_of C.source)) I32 ([] ⇒ I64 ∷ []) (ap (option_map (λ g. [] ⇒ g.vtype ∷ [])) off.length_there ∙ ap (λ t. Some ([] ⇒ t ∷ [])) off.length_type) h
+  ok_length : {labels : List (List ValType)} {z s : List ValType} {k : Nodes} → Ok (at labels) z (I64 ∷ s) k → Ok (at labels) z s (get_length C k)
+  ok_length h = ok_get (length_at C) I64 (added_length C.slots) h
+
+  pub ok_measure : {labels : List (List ValType)} {z s : List ValType} {k : Nodes} (q : Bool) → Ok (at labels) z s k → Ok (at labels) z s (measure q C k)
+  ok_measure false h = h
+  ok_measure {s = s} true h =
+      ok_basic s (GlobalGet (length_of C.source)) I32 ([] ⇒ I64 ∷ []) (ap (option_map (λ g. [] ⇒ g.vtype ∷ [])) off.length_there ∙ ap (λ t. Some ([] ⇒ t ∷ [])) off.length_type)
+      (ok_set (length_at C) I64 (added_length C.slots) h)
 
   -- behind what may have made the memory longer
-  pub ok_renew : {labels : List (List ValType)} {z s : List ValType} {k : Nodes} → Ok (at labels) z s k → Ok (at labels) z s (renew C.source k)
-  ok_renew h = ok_renewed C.source off.length_ C.source.memories off.memories off.length_there off.length_type off.length_mutable h
+  pub ok_renew : {labels : List (List ValType)} {z s : List ValType} {k : Nodes} → Ok (at labels) z s k → Ok (at labels) z s (renew_both C k)
+  ok_renew h = ok_renewed C.source off.length_ C.source.memories off.memories off.length_there off.length_type off.length_mutable (ok_measure (measured C) h)
 
   pub ok_lengthened : {labels : List (List ValType)} {z s : List ValType} {k : Nodes} (q : Bool) → (q ≡ true → HasMemory m.memories) → Ok (at labels) z s k → Ok (at labels) z s (lengthened q C k)
   ok_lengthened false has h = h
-  ok_lengthened true has h = ok_set_length C.source off.length_ off.length_there off.length_type off.length_mutable (has refl) h
+  ok_lengthened true has h = ok_set_length C.source off.length_ off.length_there off.length_type off.length_mutable (has refl) (ok_measure (measured C) h)
 
-  ok_past_end : {labels : List (List ValType)} {z s : List ValType} {k : Nodes} → Ok (at labels) z (I32 ∷ s) k → Ok (at labels) z (I64 ∷ s) (past_end C.source k)
+  ok_past_end : {labels : List (List ValType)} {z s : List ValType} {k : Nodes} → Ok (at labels) z (I32 ∷ s) k → Ok (at labels) z (I64 ∷ s) (past_end C k)
   ok_past_end h = ok_length (ok_const (values.I64 4) (ok_binary I64 Add (ok_compare I64 GtU h)))
 
   ok_beyond : {labels : List (List ValType)} {z s : List ValType} {k : Nodes} (q : Bool) (n : ℕ) → Ok (at labels) z (I64 ∷ s) k → Ok (at labels) z (I64 ∷ s) (beyond_word q n k)

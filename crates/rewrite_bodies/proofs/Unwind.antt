@@ -13,11 +13,11 @@ use Rattle.wasm_syntax.specs.Host.{World}
 use Rattle.wasm_syntax.specs.declared.host.CollectorCall.{CollectorCall}
 use Rattle.wasm_syntax.specs.declared.host.CollectorCall.TheVariants as collector_calls
 use Rattle.wasm_syntax.specs.Machine.{Kind, returns, Label, Frame, Config, label, frame, config, Engine, next, exactly, top, inside, branch, deliver}
-use Rattle.rewrite_bodies.specs.calls.Slots.{Place, Spilled, place_type, Landing, Ctx, slot, kind_at, offset_at, added, less, grown}
+use Rattle.rewrite_bodies.specs.calls.Slots.{Place, Spilled, place_type, Landing, Ctx, slot, kind_at, offset_at, added, less, grown, measured}
 use Rattle.rewrite_bodies.specs.Numbering.{mapped, value_import, frame_import, flag_of, global_types}
 use Rattle.rewrite_bodies.specs.calls.Pieces.{get, set, const, call, if_any, fetch, keep, store, reload, drops}
 use Rattle.rewrite_bodies.specs.calls.Rewrite.{hand_value, hand, hand_top, to_exit, unwind, hand_left, test_flag, test_both, passes, rewrite, hand_locals, zero_result, raise_flag, exit_code, checked, get_flag, hand_carried, landing_code}
-use Rattle.rewrite_bodies.specs.calls.Agreement.{One, Holds, awaits, pending, joined, t_kind, t_labels, Wit, UnderWay, FitsLabels, WorldFits, FitsFrame, FitsFrames, Wrap, w_frame, zero_vs, last_result, t_frames, flagged, told_length}
+use Rattle.rewrite_bodies.specs.calls.Agreement.{One, Holds, awaits, pending, joined, t_kind, t_labels, Wit, UnderWay, FitsLabels, WorldFits, FitsFrame, FitsFrames, Wrap, w_frame, zero_vs, last_result, t_frames, flagged, told_length, Waits}
 use Rattle.rewrite_bodies.specs.calls.Steps.{Gets, To, Shell, st}
 use Rattle.rewrite_bodies.proofs.Run.{if_same, stored, stored_other, kind_no_slot, clear_slot, types-stored, slice_get-put_same, slice_get-put_other, types-slice_set, added_kind, added_offset, still, one_step, seq, weaken, push_to, get_to, added_get, added_set, fetch_to, store_to}
 use Rattle.rewrite_bodies.proofs.Passing.{stored_unless, types_unless, fits_unless, kept_unless}
@@ -25,12 +25,12 @@ use Rattle.rewrite_bodies.proofs.Parts.{place_of, fits_kind, fits_offset, fits_s
 use Rattle.rewrite_bodies.proofs.Copies.{fits_any}
 use Rattle.dump_write.specs.Collected.{value_call}
 use Rattle.rewrite_bodies.specs.calls.Telling.{tell_ops, tell_labels, tell_locals, tell_frame, tell_outer}
-use Rattle.rewrite_bodies.proofs.Sim.{room_height, grown_fits, len_of, flag_len, shell, wit, wit_under, armed, if_zero_to, if_up_to}
-use Rattle.rewrite_bodies.proofs.Control.{top_exact, grown_longer, flag_to, both_to}
+use Rattle.rewrite_bodies.proofs.Sim.{room_height, grown_fits, len_of, flag_len, shell, wit, wit_under, armed, if_zero_to, if_up_to, grown_longer}
+use Rattle.rewrite_bodies.proofs.Control.{top_exact, flag_to, both_to}
 use Rattle.rewrite_bodies.proofs.Measures.{get_first, put_first}
 use Rattle.rewrite_bodies.proofs.Landed.{exit_branch, land_branch, mark_to}
 use Rattle.rewrite_bodies.specs.calls.Landings.{number_of, landing_behind, part_of}
-use Rattle.rewrite_bodies.specs.calls.Guards.{renew}
+use Rattle.rewrite_bodies.specs.calls.Guards.{measure, renew_both}
 use Rattle.wasm_syntax.proofs.Types.{same_type_is}
 use Rattle.rewrite_bodies.specs.calls.Standing.{Speaks}
 use Rattle.wasm_laws.proofs.Progress.{same_of}
@@ -309,7 +309,7 @@ module _ (M M' : Engine) (E : ℕ) (gl : List ValType) (W : Wrap) (sp : Speaks M
           let s3 = landed_out M' C sp_ M l lt exm L Ls e ss x m FR g 1 co o 0 s [] (all_ops (L ∷ Ls)) k a hm roomm (slice_get-put_same ex (offset_at C) I32 (values.I32 o) at) gt is refl (all_in C l (slice_set exm (kind_at C) (values.I32 0)) a (L ∷ Ls) (e ∷ ss) hk) low in
           rw (← tell-all (L ∷ Ls) co) (weaken M' (seq M' s1 (seq M' s2 s3)) (omega arith) (omega arith))
 
-  up_in : (Fs : List Frame) (ws : List Wit) (g : World) (co : List CollectorCall) (t : Config) (p q : ℕ) (r : Option ValType) (C : Ctx) (ex : List Value) (i cl : ℕ) (r' : Option ValType) (l : List Value) (Ls : List Label) (ss : List (List Place)) → FitsFrame M E gl (Some r) (frame i r' cl l Ls) (wit C ex ss) → FitsFrames M E gl W.result r' Fs ws → WorldFits M gl g → Up t p q r (frame i r' cl l Ls ∷ Fs) (wit C ex ss ∷ ws) g co → Up t p (q + E) r' Fs ws g (tell_frame 0 cl (frame i r' cl l Ls) co)
+  up_in : (Fs : List Frame) (ws : List Wit) (g : World) (co : List CollectorCall) (t : Config) (p q : ℕ) (r : Option ValType) (C : Ctx) (ex : List Value) (i cl : ℕ) (r' : Option ValType) (l : List Value) (Ls : List Label) (ss : List (List Place)) → FitsFrame M E gl (Waits r) (frame i r' cl l Ls) (wit C ex ss) → FitsFrames M E gl W.result r' Fs ws → WorldFits M gl g → Up t p q r (frame i r' cl l Ls ∷ Fs) (wit C ex ss ∷ ws) g co → Up t p (q + E) r' Fs ws g (tell_frame 0 cl (frame i r' cl l Ls) co)
   up_in Fs ws g co t p q r C ex i cl r' l [] ss f fs gl_ u = absurd f.labels
   up_in Fs ws g co t p q r C ex i cl r' l (L ∷ Ls) [] f fs gl_ u = absurd f.labels
   up_in Fs ws g co t p q r C ex i cl r' l (L ∷ Ls) (e ∷ ss) f fs gl_ u =
@@ -323,7 +323,7 @@ module _ (M M' : Engine) (E : ℕ) (gl : List ValType) (W : Wrap) (sp : Speaks M
       let pass = passes C L.nodes in
       let ex1 = stored_unless pass r (λ t. slot C.slots t (length es)) (zero_vs r) ex in
       let len1 : types ex1 ≡ types ex = types_unless pass r (λ t. slot C.slots t (length es)) (zero_vs r) ex pl (exact_zero r) in
-      let k = rewrite C ls (grown r es) L.nodes in
+      let k = measure (measured C) C (rewrite C ls (grown r es) L.nodes) in
       let k1 = test_flag C ls es cl k in
       let all_ = zero_vs r ++ L.operands in
       let low : length es ≤ C.slots = omega (arith, grown_longer r es, room_height C (grown r es) L.nodes h.2) in
@@ -341,7 +341,7 @@ module _ (M M' : Engine) (E : ℕ) (gl : List ValType) (W : Wrap) (sp : Speaks M
       renamed t p (q + E) C.result r' C.index i n (length l) cl 0 X.frames g (tell_locals l (tell_labels (L ∷ Ls) co)) f.result f.idx size all
 
   -- the same for a frame that called through the table
-  up_arm : (Fs : List Frame) (ws : List Wit) (g : World) (co : List CollectorCall) (t : Config) (p q : ℕ) (r : Option ValType) (C : Ctx) (ex : List Value) (others : UnderWay) (i cl : ℕ) (r' : Option ValType) (l : List Value) (Ls : List Label) (ss : List (List Place)) → FitsFrame M E gl (Some r) (frame i r' cl l Ls) (wit_under C ex ss (Some others)) → FitsFrames M E gl W.result r' Fs ws → WorldFits M gl g → Up t p q r (frame i r' cl l Ls ∷ Fs) (wit_under C ex ss (Some others) ∷ ws) g co → Up t p (q + E) r' Fs ws g (tell_frame 0 cl (frame i r' cl l Ls) co)
+  up_arm : (Fs : List Frame) (ws : List Wit) (g : World) (co : List CollectorCall) (t : Config) (p q : ℕ) (r : Option ValType) (C : Ctx) (ex : List Value) (others : UnderWay) (i cl : ℕ) (r' : Option ValType) (l : List Value) (Ls : List Label) (ss : List (List Place)) → FitsFrame M E gl (Waits r) (frame i r' cl l Ls) (wit_under C ex ss (Some others)) → FitsFrames M E gl W.result r' Fs ws → WorldFits M gl g → Up t p q r (frame i r' cl l Ls ∷ Fs) (wit_under C ex ss (Some others) ∷ ws) g co → Up t p (q + E) r' Fs ws g (tell_frame 0 cl (frame i r' cl l Ls) co)
   unfolding int_binary
   up_arm Fs ws g co t p q r C ex others i cl r' l [] ss f fs gl_ u = absurd f.labels
   up_arm Fs ws g co t p q r C ex others i cl r' l (L ∷ Ls) [] f fs gl_ u = absurd f.labels
@@ -356,7 +356,7 @@ module _ (M M' : Engine) (E : ℕ) (gl : List ValType) (W : Wrap) (sp : Speaks M
       let ex1 = stored r (λ t. slot C.slots t (length es)) (zero_vs r) ex in
       let len1 : types ex1 ≡ types ex = types-stored r (λ t. slot C.slots t (length es)) (zero_vs r) ex pl (exact_zero r) in
       let k = rewrite C ls (grown r es) L.nodes in
-      let kr = drops (length others.taken) (renew C.source (reload C r es k)) in
+      let kr = drops (length others.taken) (renew_both C (reload C r es k)) in
       let K = test_both C ls es cl others.others kr in
       let ops = others.taken ++ L.operands in
       let low : length es ≤ C.slots = omega (arith, grown_longer r es, room_height C (grown r es) L.nodes h.2) in
@@ -389,7 +389,7 @@ module _ (M M' : Engine) (E : ℕ) (gl : List ValType) (W : Wrap) (sp : Speaks M
       let all : Gets M' p (q + E) t (deliver M' (zero_vs C.result) X.frames g1 (collector_calls.Frame 0 C.index cl n ∷ tell_locals l (tell_labels (L ∷ Ls) co))) = weaken M' (seq M' go1 (seq M' s1 (seq M' s2 (seq M' s3 (seq M' s4 s5))))) (omega arith) (omega (arith, f.small)) in
       renamed t p (q + E) C.result r' C.index i n (length l) cl 0 X.frames g (tell_locals l (tell_labels (L ∷ Ls) co)) f.result f.idx size all
 
-  pub up_under : (Fs : List Frame) (ws : List Wit) (g : World) (co : List CollectorCall) (t : Config) (p q : ℕ) (r : Option ValType) (F : Frame) (C : Ctx) (ex : List Value) (ss : List (List Place)) (others : Option UnderWay) → FitsFrame M E gl (Some r) F (wit_under C ex ss others) → FitsFrames M E gl W.result F.result Fs ws → WorldFits M gl g → Up t p q r (F ∷ Fs) (wit_under C ex ss others ∷ ws) g co → Up t p (q + E) F.result Fs ws g (tell_frame 0 F.call F co)
+  pub up_under : (Fs : List Frame) (ws : List Wit) (g : World) (co : List CollectorCall) (t : Config) (p q : ℕ) (r : Option ValType) (F : Frame) (C : Ctx) (ex : List Value) (ss : List (List Place)) (others : Option UnderWay) → FitsFrame M E gl (Waits r) F (wit_under C ex ss others) → FitsFrames M E gl W.result F.result Fs ws → WorldFits M gl g → Up t p q r (F ∷ Fs) (wit_under C ex ss others ∷ ws) g co → Up t p (q + E) F.result Fs ws g (tell_frame 0 F.call F co)
   up_under Fs ws g co t p q r F C ex ss None f fs gl_ u = up_in Fs ws g co t p q r C ex F.function F.call F.result F.locals F.labels ss f fs gl_ u
   up_under Fs ws g co t p q r F C ex ss (Some others) f fs gl_ u = up_arm Fs ws g co t p q r C ex others F.function F.call F.result F.locals F.labels ss f fs gl_ u
 

@@ -5,10 +5,11 @@ ghost use Rattle.wasm_syntax.specs.Tree.{basic};
 ghost use Rattle.wasm_syntax.specs.declared.instruction.Basic.TheVariants.{GlobalGet as GlobalGetOf};
 ghost use Rattle.wasm_syntax.specs.declared.instruction.Basic.TheVariants.{LocalTee as LocalTeeOf};
 ghost use Rattle.rewrite_bodies.specs.Numbering.{flag_of};
-ghost use Rattle.rewrite_bodies.specs.calls.Slots.{slot, kind_at, offset_at};
+ghost use Rattle.rewrite_bodies.specs.calls.Slots.{slot, kind_at, offset_at, length_at, measured};
 ghost use Rattle.rewrite_bodies.specs.calls.Pieces.{get, set};
 ghost use Rattle.rewrite_bodies.specs.calls.Rewrite.{hand_value};
-ghost use Rattle.rewrite_bodies.specs.calls.Guards.{get_length, renew, set_length};
+ghost use Rattle.rewrite_bodies.specs.calls.Guards.{get_length, length_of, measure, set_length};
+ghost use Rattle.rewrite_bodies.specs.calls.Guards.{renew, renew_both, set_both};
 ghost use Rattle.rewrite_code.specs.calls.Writing.{Emits};
 ghost use Rattle.rewrite_bodies.specs.calls.Landings.{most_landings};
 ghost use Rattle.rewrite_bodies.specs.calls.Facts.{among};
@@ -158,9 +159,23 @@ impl<'m, 'a> FunctionContext<'m, 'a> {
         self.slots + 2
     }
 
+    /// The place of the length of the memory.
+    fn length_at(&self) -> u32
+        ensures { result ≡ length_at self.now }
+    {
+        2 * self.slots + 4
+    }
+
+    /// Whether the function has a guard, and so keeps the length of the memory.
+    fn is_measured(&self) -> bool
+        ensures { result ≡ measured self.now }
+    {
+        self.exposed.is_any()
+    }
+
     /// Reads an added local.
     pub fn get(&self, writer: &mut CodeWriter, x: u32) -> Result<(), NoMemory>
-        requires { x ≤ 2 * self.now.slots + 3 }
+        requires { x ≤ 2 * self.now.slots + 4 }
         ensures { OnOk result (Emits (get self.now x) writer.old writer.new) }
     {
         writer.basic(Basic::LocalGet(self.locals.len() as u32 + x))
@@ -168,7 +183,7 @@ impl<'m, 'a> FunctionContext<'m, 'a> {
 
     /// Writes an added local.
     pub fn set(&self, writer: &mut CodeWriter, x: u32) -> Result<(), NoMemory>
-        requires { x ≤ 2 * self.now.slots + 3 }
+        requires { x ≤ 2 * self.now.slots + 4 }
         ensures { OnOk result (Emits (set self.now x) writer.old writer.new) }
     {
         writer.basic(Basic::LocalSet(self.locals.len() as u32 + x))
@@ -176,7 +191,7 @@ impl<'m, 'a> FunctionContext<'m, 'a> {
 
     /// Writes an added local, and leaves the value on the stack.
     pub fn tee(&self, writer: &mut CodeWriter, x: u32) -> Result<(), NoMemory>
-        requires { x ≤ 2 * self.now.slots + 3 }
+        requires { x ≤ 2 * self.now.slots + 4 }
         ensures { OnOk result (Emits (basic 0 (LocalTeeOf (length self.now.locals + x))) writer.old
             writer.new) }
     {
@@ -191,25 +206,61 @@ impl<'m, 'a> FunctionContext<'m, 'a> {
         writer.basic(Basic::GlobalGet(self.map.flag()))
     }
 
-    /// Reads four bytes less than the length of the memory, as an i64.
+    /// Reads four bytes less than the length of the memory, as an i64, in a function that keeps it.
     pub fn get_length(&self, writer: &mut CodeWriter) -> Result<(), NoMemory>
-        ensures { OnOk result (Emits (get_length self.now.source) writer.old writer.new) }
+        ensures { OnOk result (Emits (get_length self.now) writer.old writer.new) }
+    {
+        self.get(writer, self.length_at())
+    }
+
+    /// Reads the global that has it.
+    fn get_global(&self, writer: &mut CodeWriter) -> Result<(), NoMemory>
+        ensures { OnOk result (Emits (basic 0 (GlobalGetOf (length_of self.now.source))) writer.old
+            writer.new) }
     {
         writer.basic(Basic::GlobalGet(self.map.length()))
     }
 
-    /// Sets it anew, behind an instruction that changes it.
-    pub fn set_length(&self, writer: &mut CodeWriter) -> Result<(), NoMemory>
+    /// Sets the global, behind an instruction that changes the length.
+    fn set_global(&self, writer: &mut CodeWriter) -> Result<(), NoMemory>
         ensures { OnOk result (Emits (set_length self.now.source) writer.old writer.new) }
     {
         set_length(self.map, writer)
     }
 
-    /// Sets it anew where there is a memory, behind the call of an import.
-    pub fn renew(&self, writer: &mut CodeWriter) -> Result<(), NoMemory>
+    /// Sets the global where there is a memory.
+    fn renew_global(&self, writer: &mut CodeWriter) -> Result<(), NoMemory>
         ensures { OnOk result (Emits (renew self.now.source) writer.old writer.new) }
     {
         renew(self.map, writer)
+    }
+
+    /// Sets the local of the length from the global, in a function that keeps it.
+    pub fn measure(&self, writer: &mut CodeWriter) -> Result<(), NoMemory>
+        ensures { OnOk result (Emits (measure (measured self.now) self.now) writer.old writer.new) }
+    {
+        if self.is_measured() {
+            self.get_global(writer)?;
+            self.set(writer, self.length_at())
+        } else {
+            Ok(())
+        }
+    }
+
+    /// Sets both anew, behind an instruction that changes the length.
+    pub fn set_length(&self, writer: &mut CodeWriter) -> Result<(), NoMemory>
+        ensures { OnOk result (Emits (set_both self.now) writer.old writer.new) }
+    {
+        self.set_global(writer)?;
+        self.measure(writer)
+    }
+
+    /// Sets both anew behind the call of an import: the global where there is a memory.
+    pub fn renew(&self, writer: &mut CodeWriter) -> Result<(), NoMemory>
+        ensures { OnOk result (Emits (renew_both self.now) writer.old writer.new) }
+    {
+        self.renew_global(writer)?;
+        self.measure(writer)
     }
 
     /// Hands the value on the stack over.

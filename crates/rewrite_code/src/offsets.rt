@@ -2,6 +2,7 @@
 
 ghost use Rattle.std.specs.Prelude.{◌≡◌, ◌++◌, ◌∷◌, [], true, OnOk};
 ghost use Rattle.rewrite_bodies.specs.calls.Facts.{among};
+ghost use Rattle.rewrite_bodies.specs.calls.Slots.{is_any};
 ghost use Rattle.rewrite_code.specs.calls.Rising.{Rising};
 
 use causes::NoMemory;
@@ -30,6 +31,16 @@ fn is_found(items: &[u32], offset: u32) -> bool
     ensures { Rising items.now → result ≡ among offset items.now }
 {
     items.binary_search(&offset).is_ok()
+}
+
+/// Whether there is one.
+fn has_some(items: &[u32]) -> bool
+    ensures { result ≡ is_any items.now }
+{
+    match items {
+        [] => false,
+        [..] => true,
+    }
 }
 
 /// Offsets of instructions of a function, which contracts see as a list, in the order in which they
@@ -71,6 +82,13 @@ impl Offsets {
         }
         self.items.push(offset)?;
         Ok(())
+    }
+
+    /// Whether there is one.
+    pub fn is_any(&self) -> bool
+        ensures { result ≡ is_any self.now }
+    {
+        has_some(self.items.as_slice())
     }
 
     /// Whether an offset is one of them.

@@ -20,10 +20,10 @@ use Rattle.wasm_syntax.specs.declared.instruction.Basic.TheVariants.{Select, Loc
 use Rattle.wasm_syntax.specs.declared.value.ValType.TheVariants.{I32, I64}
 use Rattle.wasm_syntax.specs.Sizes.{parameter_count}
 use Rattle.rewrite_bodies.specs.Numbering.{import_count, mapped, frame_import, global_types, doubles}
-use Rattle.rewrite_bodies.specs.calls.Slots.{Place, place_type, Ctx, slot, kind_at, offset_at, less, grown, under, result_place, after_plain, Spilled, Known, Copied, Landing, local_written}
+use Rattle.rewrite_bodies.specs.calls.Slots.{Place, place_type, Ctx, slot, kind_at, offset_at, less, grown, under, result_place, after_plain, Spilled, Known, Copied, Landing, local_written, measured}
 use Rattle.rewrite_bodies.specs.calls.Pieces.{get, set, const, i32, call, if_any, fetch, load, keep_slot, keep, store, reload, spill_one, spill, drops}
-use Rattle.rewrite_bodies.specs.calls.Guards.{least, minus_one, guard_zero, guard_signed, past_end, beyond_word, out_test, guard_memory, range_test, guard, can_trap, kind, helper, renewed, renew}
-use Rattle.rewrite_bodies.specs.calls.Rewrite.{hand_value, hand, hand_top, to_exit, unwind, test_flag, test_both, unwind_kind, tested, guarded, passes, free, plain, with_result, after_call, after_direct, call_code, helper_of, past_shown, indirect_code, control, rewrite, hand_locals, zero_result, raise_flag, exit_code, body, checked, get_flag, hand_carried, landing_code, nested, laid, free_at, grows, lengthened}
+use Rattle.rewrite_bodies.specs.calls.Guards.{least, minus_one, guard_zero, guard_signed, past_end, beyond_word, out_test, guard_memory, range_test, guard, can_trap, kind, helper, renewed, measure, renew_both}
+use Rattle.rewrite_bodies.specs.calls.Rewrite.{hand_value, hand, hand_top, to_exit, unwind, test_flag, test_both, unwind_kind, tested, guarded, passes, free, plain, with_result, after_call, after_direct, call_code, helper_of, past_shown, indirect_code, control, rewrite, hand_locals, zero_result, raise_flag, exit_code, body, checked, get_flag, hand_carried, landing_code, nested, laid, free_at, grows, lengthened, blocks}
 use Rattle.rewrite_modules.specs.calls.Wrappers.{get_all, tell_globals, after_wrapped, wrapper}
 use Rattle.rewrite_modules.specs.calls.FlatCode.{op}
 use Rattle.rewrite_bodies.proofs.Risks.{risk_of}
@@ -111,7 +111,7 @@ module _ (C : Ctx) where
       tree_fetch a h (const (least t) (basic 0 (Compare t Eq) (fetch C b (suc h) k3))) (tree_fetch b (suc h) k3 (tree_zero t b (suc h) k5 tk))
 
   tree_memory : (a : Place) (h n : ℕ) (k : Nodes) → IsTree k → IsTree (guard_memory C a h n k)
-  tree_memory a h n k tk = tree_fetch a h (out_test C.source n k) (tree_beyond (n == 4) tk)
+  tree_memory a h n k tk = tree_fetch a h (out_test C n k) (tree_beyond (n == 4) tk)
     where
       tree_beyond : (q : Bool) → IsTree k → IsTree (beyond_word q n (basic 0 (Compare I64 GtS) k))
       tree_beyond true t = t
@@ -119,7 +119,7 @@ module _ (C : Ctx) where
 
   tree_range : (a : Place) (h : ℕ) (n : Place) (hn : ℕ) (k : Nodes) → IsTree k → IsTree (range_test C a h n hn k)
   tree_range a h n hn k tk =
-      let k2 = basic 0 (Convert ExtendU) (basic 0 (Binary I64 Add) (past_end C.source k)) in
+      let k2 = basic 0 (Convert ExtendU) (basic 0 (Binary I64 Add) (past_end C k)) in
       tree_fetch a h (basic 0 (Convert ExtendU) (fetch C n hn k2)) (tree_fetch n hn k2 tk)
 
   tree_kind_division : (op : BinaryOp) → Divider op → (t : ValType) (es : List Place) (k : Nodes) → IsTree k → IsTree (kind C (Binary t op) es k)
@@ -184,9 +184,16 @@ module _ (C : Ctx) where
   tree_free None es k tk = tk
   tree_free (Some x) es k tk = tree_spill (λ y. x == y) es k tk
 
+  tree_measure : (q : Bool) (k : Nodes) → IsTree k → IsTree (measure q C k)
+  tree_measure false k tk = tk
+  tree_measure true k tk = tk
+
+  tree_both_set : (k : Nodes) → IsTree k → IsTree (renew_both C k)
+  tree_both_set k tk = tree_renewed C.source.memories C.source (measure (measured C) C k) (tree_measure (measured C) k tk)
+
   tree_lengthened : (q : Bool) (k : Nodes) → IsTree k → IsTree (lengthened q C k)
   tree_lengthened false k tk = tk
-  tree_lengthened true k tk = tk
+  tree_lengthened true k tk = tree_measure (measured C) k tk
 
   tree_plain : (ls : ℕ) (es : List Place) (o : ℕ) (i : Basic) (pass : Bool) (go : List Place → Nodes) → Goes go → IsTree (plain C ls es o i pass go)
   tree_plain ls es o i pass go h =
@@ -210,10 +217,10 @@ module _ (C : Ctx) where
   tree_result r es pass go h = tree_keep pass (option_map Spilled r) es (go (grown r es)) (h (grown r es))
 
   tree_after : (ls : ℕ) (r : Option ValType) (es : List Place) (o : ℕ) (pass : Bool) (go : List Place → Nodes) → Goes go → IsTree (after_call C ls r es o pass go)
-  tree_after ls r es o pass go h = tree_result r es pass (λ es'. test_flag C ls es o (go es')) (λ es'. tree_flag ls es o (go es') (h es'))
+  tree_after ls r es o pass go h = tree_result r es pass (λ es'. test_flag C ls es o (measure (measured C) C (go es'))) (λ es'. tree_flag ls es o (measure (measured C) C (go es')) (tree_measure (measured C) (go es') (h es')))
 
   tree_direct : (q : Bool) (ls : ℕ) (r : Option ValType) (es : List Place) (o : ℕ) (pass : Bool) (go : List Place → Nodes) → Goes go → IsTree (after_direct q C ls r es o pass go)
-  tree_direct true ls r es o pass go h = tree_renewed C.source.memories C.source (with_result C r es pass go) (tree_result r es pass go h)
+  tree_direct true ls r es o pass go h = tree_result r es pass (λ es'. renew_both C (go es')) (λ es'. tree_both_set (go es') (h es'))
   tree_direct false ls r es o pass go h = tree_after ls r es o pass go h
 
   tree_call : (q : Option FuncType) (ls : ℕ) (es : List Place) (o f : ℕ) (pass : Bool) (go : List Place → Nodes) → Goes go → IsTree (call_code C ls es o f q pass go)
@@ -233,12 +240,12 @@ module _ (C : Ctx) where
       let r = result_of type in
       let others = hand_top C (suc n) (i ∷ es) stop in
       let loaded = reload C r left (go (grown r left)) in
-      let back = renew C.source loaded in
+      let back = renew_both C loaded in
       let next_ = drops (suc n) back in
       let call_ = jump 0 (CallIndirect t) (store C r left stop) in
       let inner = past_shown (doubles C.source) C call_ in
       let k1 = set C (kind_at C) (get C (kind_at C) (basic 0 (Eqz I32) (if_any (load C (suc n) (i ∷ es) inner) (test_both C ls left o others next_)))) in
-      let tree_back = tree_drops (suc n) back (tree_renewed C.source.memories C.source loaded (tree_reload r left (go (grown r left)) (h (grown r left)))) in
+      let tree_back = tree_drops (suc n) back (tree_both_set loaded (tree_reload r left (go (grown r left)) (h (grown r left)))) in
       tree_fetch i (length es) (call (helper_of C t) k1) (tree_load (suc n) (i ∷ es) inner (tree_past (doubles C.source) call_ (tree_store r left stop tt)), refl, tt, tree_both ls left o others next_ (tree_hand_top (suc n) (i ∷ es) stop tt) tree_back)
 
   tree_control : (j : Jump) (ls : ℕ) (es : List Place) (o : ℕ) (pass : Bool) (go : List Place → Nodes) → Goes go → IsTree (control C ls es o j pass go)
@@ -299,7 +306,7 @@ module _ (C : Ctx) where
   tree_nested (x ∷ xs) inner h = tree_nested xs (block 0 x.carried inner 0 (landing_code C (length xs) x)) (h, tree_landing (length xs) x)
 
   tree_laid : (nodes : Nodes) → IsTree nodes → IsTree (laid C nodes)
-  tree_laid nodes it = (tree_nested C.landings (block 0 C.result (rewrite C 1 [] nodes) 0 (jump 0 Return stop)) (tree_rewrite nodes 1 [] it, tt), tree_exit)
+  tree_laid nodes it = tree_measure (measured C) (blocks C nodes) (tree_nested C.landings (block 0 C.result (rewrite C 1 [] nodes) 0 (jump 0 Return stop)) (tree_rewrite nodes 1 [] it, tt), tree_exit)
 
 pub tree_body : (C : Ctx) (nodes : Nodes) → IsTree nodes → IsTree (body C nodes)
 tree_body C nodes it = tree_laid (with_landings C nodes) nodes it

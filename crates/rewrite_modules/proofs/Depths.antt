@@ -20,10 +20,10 @@ use Rattle.wasm_syntax.specs.declared.instruction.Convert.TheVariants.{ExtendU}
 use Rattle.wasm_syntax.specs.declared.instruction.Basic.TheVariants.{Select, LocalGet, Eqz, Compare, Binary, Convert}
 use Rattle.wasm_syntax.specs.declared.value.ValType.TheVariants.{I32, I64}
 use Rattle.rewrite_bodies.specs.Numbering.{import_count, mapped, frame_import, global_types, doubles}
-use Rattle.rewrite_bodies.specs.calls.Slots.{Place, place_type, Ctx, slot, kind_at, offset_at, less, grown, under, result_place, after_plain, Spilled, Known, Copied, Landing, local_written}
+use Rattle.rewrite_bodies.specs.calls.Slots.{Place, place_type, Ctx, slot, kind_at, offset_at, less, grown, under, result_place, after_plain, Spilled, Known, Copied, Landing, local_written, measured}
 use Rattle.rewrite_bodies.specs.calls.Pieces.{get, set, const, i32, call, if_any, fetch, load, keep_slot, keep, store, reload, spill_one, spill, drops}
-use Rattle.rewrite_bodies.specs.calls.Guards.{least, minus_one, guard_zero, guard_signed, past_end, beyond_word, out_test, guard_memory, range_test, guard, can_trap, kind, helper, renewed, renew}
-use Rattle.rewrite_bodies.specs.calls.Rewrite.{hand_value, hand, hand_top, to_exit, unwind, test_flag, test_both, unwind_kind, tested, guarded, passes, free, plain, with_result, after_call, after_direct, call_code, helper_of, past_shown, indirect_code, control, rewrite, hand_locals, zero_result, raise_flag, exit_code, body, checked, get_flag, hand_carried, landing_code, nested, laid, free_at, grows, lengthened}
+use Rattle.rewrite_bodies.specs.calls.Guards.{least, minus_one, guard_zero, guard_signed, past_end, beyond_word, out_test, guard_memory, range_test, guard, can_trap, kind, helper, renewed, measure, renew_both}
+use Rattle.rewrite_bodies.specs.calls.Rewrite.{hand_value, hand, hand_top, to_exit, unwind, test_flag, test_both, unwind_kind, tested, guarded, passes, free, plain, with_result, after_call, after_direct, call_code, helper_of, past_shown, indirect_code, control, rewrite, hand_locals, zero_result, raise_flag, exit_code, body, checked, get_flag, hand_carried, landing_code, nested, laid, free_at, grows, lengthened, blocks}
 use Rattle.rewrite_modules.specs.calls.Wrappers.{get_all, tell_globals, after_wrapped, wrapper}
 use Rattle.wasm_syntax.specs.declared.instruction.Instr.{Instr}
 use Rattle.wasm_syntax.specs.declared.instruction.Instr.TheVariants as instrs
@@ -251,7 +251,7 @@ module _ (C : Ctx) where
       low_fetch lv a h (const (least t) (basic 0 (Compare t Eq) (fetch C b (suc h) k3))) (low_fetch lv b (suc h) k3 (low_zero lv t b (suc h) k5 tk))
 
   low_memory : (lv : ℕ) (a : Place) (h n : ℕ) (k : Nodes) → Low lv k → Low lv (guard_memory C a h n k)
-  low_memory lv a h n k tk = low_fetch lv a h (out_test C.source n k) (low_beyond (n == 4) tk)
+  low_memory lv a h n k tk = low_fetch lv a h (out_test C n k) (low_beyond (n == 4) tk)
     where
       low_beyond : (q : Bool) → Low lv k → Low lv (beyond_word q n (basic 0 (Compare I64 GtS) k))
       low_beyond true t = t
@@ -259,7 +259,7 @@ module _ (C : Ctx) where
 
   low_range : (lv : ℕ) (a : Place) (h : ℕ) (n : Place) (hn : ℕ) (k : Nodes) → Low lv k → Low lv (range_test C a h n hn k)
   low_range lv a h n hn k tk =
-      let k2 = basic 0 (Convert ExtendU) (basic 0 (Binary I64 Add) (past_end C.source k)) in
+      let k2 = basic 0 (Convert ExtendU) (basic 0 (Binary I64 Add) (past_end C k)) in
       low_fetch lv a h (basic 0 (Convert ExtendU) (fetch C n hn k2)) (low_fetch lv n hn k2 tk)
 
   low_kind_division : (lv : ℕ) (op : BinaryOp) → Divider op → (t : ValType) (es : List Place) (k : Nodes) → Low lv k → Low lv (kind C (Binary t op) es k)
@@ -324,9 +324,16 @@ module _ (C : Ctx) where
   low_free lv None es k tk = tk
   low_free lv (Some x) es k tk = low_spill lv (λ y. x == y) es k tk
 
+  low_measure : (lv : ℕ) (q : Bool) (k : Nodes) → Low lv k → Low lv (measure q C k)
+  low_measure lv false k tk = tk
+  low_measure lv true k tk = tk
+
+  low_both_set : (lv : ℕ) (k : Nodes) → Low lv k → Low lv (renew_both C k)
+  low_both_set lv k tk = low_renewed lv C.source.memories C.source (measure (measured C) C k) (low_measure lv (measured C) k tk)
+
   low_lengthened : (lv : ℕ) (q : Bool) (k : Nodes) → Low lv k → Low lv (lengthened q C k)
   low_lengthened lv false k tk = tk
-  low_lengthened lv true k tk = tk
+  low_lengthened lv true k tk = low_measure lv (measured C) k tk
 
   low_plain : (d : ℕ) (ls : ℕ) (es : List Place) (o : ℕ) (i : Basic) (pass : Bool) (go : List Place → Nodes) → AllLow d go → Low (suc (suc d)) (plain C ls es o i pass go)
   low_plain d ls es o i pass go h =
@@ -350,10 +357,10 @@ module _ (C : Ctx) where
   low_result d r es pass go h = low_keep (suc (suc d)) pass (option_map Spilled r) es (go (grown r es)) (h (grown r es))
 
   low_after : (d : ℕ) (ls : ℕ) (r : Option ValType) (es : List Place) (o : ℕ) (pass : Bool) (go : List Place → Nodes) → AllLow d go → Low (suc (suc d)) (after_call C ls r es o pass go)
-  low_after d ls r es o pass go h = low_result d r es pass (λ es'. test_flag C ls es o (go es')) (λ es'. low_flag d ls es o (go es') (h es'))
+  low_after d ls r es o pass go h = low_result d r es pass (λ es'. test_flag C ls es o (measure (measured C) C (go es'))) (λ es'. low_flag d ls es o (measure (measured C) C (go es')) (low_measure (suc (suc d)) (measured C) (go es') (h es')))
 
   low_direct : (d : ℕ) (q : Bool) (ls : ℕ) (r : Option ValType) (es : List Place) (o : ℕ) (pass : Bool) (go : List Place → Nodes) → AllLow d go → Low (suc (suc d)) (after_direct q C ls r es o pass go)
-  low_direct d true ls r es o pass go h = low_renewed (suc (suc d)) C.source.memories C.source (with_result C r es pass go) (low_result d r es pass go h)
+  low_direct d true ls r es o pass go h = low_result d r es pass (λ es'. renew_both C (go es')) (λ es'. low_both_set (suc (suc d)) (go es') (h es'))
   low_direct d false ls r es o pass go h = low_after d ls r es o pass go h
 
   low_call : (d : ℕ) (q : Option FuncType) (ls : ℕ) (es : List Place) (o f : ℕ) (pass : Bool) (go : List Place → Nodes) → AllLow d go → Low (suc (suc d)) (call_code C ls es o f q pass go)
@@ -373,12 +380,12 @@ module _ (C : Ctx) where
       let r = result_of type in
       let others = hand_top C (suc n) (i ∷ es) stop in
       let loaded = reload C r left (go (grown r left)) in
-      let back = renew C.source loaded in
+      let back = renew_both C loaded in
       let next_ = drops (suc n) back in
       let call_ = jump 0 (CallIndirect t) (store C r left stop) in
       let inner = past_shown (doubles C.source) C call_ in
       let k1 = set C (kind_at C) (get C (kind_at C) (basic 0 (Eqz I32) (if_any (load C (suc n) (i ∷ es) inner) (test_both C ls left o others next_)))) in
-      let low_back = low_drops (suc (suc d)) (suc n) back (low_renewed (suc (suc d)) C.source.memories C.source loaded (low_reload (suc (suc d)) r left (go (grown r left)) (h (grown r left)))) in
+      let low_back = low_drops (suc (suc d)) (suc n) back (low_both_set (suc (suc d)) loaded (low_reload (suc (suc d)) r left (go (grown r left)) (h (grown r left)))) in
       low_fetch (suc (suc d)) i (length es) (call (helper_of C t) k1)
       (low_load (suc d) (suc n) (i ∷ es) inner (low_past (suc d) (doubles C.source) call_ (low_store (suc d) r left stop tt)), tt, low_both d ls left o others next_ (low_hand_top d (suc n) (i ∷ es) stop tt) low_back)
 
@@ -441,6 +448,7 @@ module _ (C : Ctx) where
 
   low_laid : (d : ℕ) (nodes : Nodes) → Low d nodes → Low (suc (length C.landings + suc (suc (suc d)))) (laid C nodes)
   low_laid d nodes h =
+      low_measure (suc (length C.landings + suc (suc (suc d)))) (measured C) (blocks C nodes)
       (low_nested C.landings (suc (suc (suc d))) (length C.landings + suc (suc (suc d))) (block 0 C.result (rewrite C 1 [] nodes) 0 (jump 0 Return stop)) refl (low_rewrite d nodes 1 [] h, tt), low_exit (suc (length C.landings + suc (suc (suc d)))))
 
 -- within more blocks

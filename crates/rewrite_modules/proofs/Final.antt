@@ -160,15 +160,15 @@ module _ (p : Program) (fit : Fits p) (d : ℕ) (deep : 0 < d) (low : d ≤ 1000
   pub world_alike : (c c' : Config) (up : ℕ) → c'.world ≡ flagged M c.world (values.I32 up) → SameState (Some c) (Some c')
   world_alike c c' up e = (ap (λ w. w.memory) e, ap (λ w. take (length c.world.globals) w.globals) e ∙ take-append_seam c.world.globals (values.I32 up ∷ values.I64 (told_length c.world.memory) ∷ []))
 
-  frames_some : (wr : Option ValType) (Fs : List Frame) (ws : List Wit) → FitsTop M E gl wr Fs ws → 0 < length Fs
-  frames_some wr [] ws h = absurd h
-  frames_some wr (F ∷ Fs) ws h = omega arith
+  frames_some : (g : World) (wr : Option ValType) (Fs : List Frame) (ws : List Wit) → FitsTop M E gl g wr Fs ws → 0 < length Fs
+  frames_some g wr [] ws h = absurd h
+  frames_some g wr (F ∷ Fs) ws h = omega arith
 
   pub trap_alike : (q : Bool) (j : ℕ) (c c' : Config) (left left' : ℕ) → c'.world ≡ flagged M c.world (values.I32 0) → c'.collected ≡ collected j c → c.collected ≡ [] → WorldFits M gl c.world → (wr : Option ValType) (ws : List Wit) → FitsConfig M E gl wr c ws → length c.frames ≤ d → 1 ≤ j → j ≤ 8 → (j ≡ 8 → ⊥) → Followed (length m.globals) (ran_to q (traps j c) left) (ran_to q (traps 1 c') left')
   trap_alike q j c c' left left' we ce e wf wr ws h sh j1 j8 n8 =
       let j7 : j ≤ 7 = seven j j8 n8 in
       let lg : length c.world.globals ≤ 20000000 = omega (arith, fit.few_globals, len_of c.world.globals gl wf.globals, length-map m.globals (λ g. g.vtype)) in
-      let some = frames_some wr c.frames ws h.1 in
+      let some = frames_some c.world wr c.frames ws h.1 in
       let col : reverse c'.collected ≡ reverse (collected j c) = ap reverse ce in
       let few = subst (λ z. length z ≤ 134217728) (sym col) (few_calls M E gl wr j c ws h e (omega (arith, sh, low)) fit.few_locals fit.few_heights lg) in
       let same = λ (name : List ℕ). dump_is j c e (reverse c'.collected) col j1 j7 few some (memory_of c') name (ap (λ w. option_map (λ k. k.bytes) w.memory) we) in

@@ -64,7 +64,7 @@ pub declared-append : (a b : List _) → declared_locals (a ++ b) ≡ declared_l
 declared-append a b = flat_map-append (λ g. replicate g.count g.vtype) a b
 
 pub declared-groups : (n : ℕ) → declared_locals (groups n) ≡ added n
-declared-groups n = ap (λ (z : List ValType). replicate (n + 3) I32 ++ z) (append-nil (replicate (n + 1) I64))
+declared-groups n = ap (λ (z : List ValType). replicate (n + 3) I32 ++ z) (append-nil (replicate (n + 2) I64))
 
 -- ---- the functions of a program
 

@@ -32,9 +32,9 @@ use Rattle.rewrite_modules.proofs.ValidModule.{From, there_from, new_bodies}
 use Rattle.rewrite_modules.proofs.Depths.{low_body, low_wrapper, low_helper, body_low, low_nesting}
 use Rattle.wasm_syntax.proofs.Bodies.{tree_there, declared_length}
 
-length-added : (n : ℕ) → length (added n) ≡ 2 * n + 4
+length-added : (n : ℕ) → length (added n) ≡ 2 * n + 5
 length-added n =
-    omega (arith, length-append (replicate (n + 3) I32) (replicate (n + 1) I64), length-replicate {A = ValType} (n + 3) I32, length-replicate {A = ValType} (n + 1) I64)
+    omega (arith, length-append (replicate (n + 3) I32) (replicate (n + 2) I64), length-replicate {A = ValType} (n + 3) I32, length-replicate {A = ValType} (n + 2) I64)
 
 pub type_in : (m : Module) (f : ℕ) (type : FuncType) → type_at m f ≡ Some type → (t : ℕ) × (slice_get m.types t ≡ Some type)
 type_in m f type e = inside (slice_get (function_types m) f) e
@@ -83,7 +83,7 @@ module _ (m : Module) (x : Instrumentable m) where
       let slots = slots_of p f b tree type in
       let z = sizes_fit p (ready_given p given) f b tree type d at in
       let gs = b.groups in
-      let n : sum (map (λ g. g.count) (gs ++ groups slots)) ≡ length (declared_locals gs) + (2 * slots + 4) =
+      let n : sum (map (λ g. g.count) (gs ++ groups slots)) ≡ length (declared_locals gs) + (2 * slots + 5) =
       omega (arith, declared_length (gs ++ groups slots), ap length (declared-append gs (groups slots)), length-append (declared_locals gs) (declared_locals (groups slots)), ap length (declared-groups slots), length-added slots) in
       let old = length-append type.params (declared_locals gs) in
       let w = tree_there m.bodies x.whole.trees d.number b tree x.whole.write d.body_is d.tree_is in

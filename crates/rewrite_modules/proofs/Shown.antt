@@ -1,19 +1,19 @@
 -- What is collected of a trapped configuration is whole, and its dump is the image.
-use Rattle.std.proofs.Common.{◌≡◌, ℕ, suc, ◌+◌, ◌*◌, ◌<◌, ◌≤◌, List, [], ◌∷◌, ◌++◌, length, map, reverse, Option, Some, None, Bool, true, false, refl, sym, ap, ◌∙◌, arith, append_assoc, append-nil, length-append, option_map, mul-le-mul}
+use Rattle.std.proofs.Common.{◌≡◌, ℕ, suc, ◌+◌, ◌*◌, ◌<◌, ◌≤◌, List, [], ◌∷◌, ◌++◌, length, map, reverse, Option, Bool, true, false, refl, sym, ap, ◌∙◌, arith, append_assoc, append-nil, length-append, option_map, mul-le-mul}
 use Rattle.wasm_syntax.specs.declared.value.ValType.{ValType}
 use Rattle.wasm_syntax.specs.declared.value.Value.{Value}
 use Rattle.wasm_syntax.specs.declared.host.CollectorCall.{CollectorCall}
 use Rattle.wasm_syntax.specs.declared.host.CollectorCall.TheVariants as collector_calls
 use Rattle.wasm_syntax.specs.Tree.{Nodes}
+use Rattle.wasm_syntax.specs.Host.{World}
 use Rattle.wasm_syntax.specs.Machine.{Label, Frame, Config, frame, Engine, calls, offset_of}
 use Rattle.rewrite_bodies.specs.calls.Slots.{Place, Ctx, grown, greatest}
 use Rattle.rewrite_bodies.specs.calls.Rewrite.{passes}
-use Rattle.rewrite_bodies.specs.calls.Agreement.{awaits, pending, joined, UnderWay, Wit, HoldsBut, FitsLabels, FitsOpen, FitsFrame, FitsFrames, FitsTop, FitsConfig}
+use Rattle.rewrite_bodies.specs.calls.Agreement.{awaits, pending, joined, UnderWay, Wit, HoldsBut, FitsLabels, FitsOpen, FitsFrame, FitsFrames, FitsTop, FitsConfig, Doing, Runs, Waits, running}
 use Rattle.dump_write.specs.Collected.{value_call, Entry, entry_calls, calls_of, HaveKind, Whole, collected_dump}
 use Rattle.rewrite_bodies.specs.calls.Telling.{tell_ops, tell_labels, tell_locals, tell_frame, tell_outer, tell_frames, collected}
 use Rattle.std.proofs.lemmas.List.{map-append, reverse-append, length-reverse}
-use Rattle.rewrite_bodies.proofs.Sim.{room_height, len_of, wit_under}
-use Rattle.rewrite_bodies.proofs.Control.{grown_longer}
+use Rattle.rewrite_bodies.proofs.Sim.{room_height, len_of, wit_under, grown_longer}
 use Rattle.rewrite_bodies.proofs.Calls.{holds_len}
 use Rattle.std.specs.Prelude.{flat_map}
 use Rattle.dump_write.specs.Image.{frame_image, frame_images}
@@ -112,15 +112,15 @@ len_but C true l ex js [] (v ∷ ops) h = absurd h
 len_but C true l ex js (e ∷ es) [] h = absurd h
 len_but C true l ex js (e ∷ es) (v ∷ ops) h = ap suc (holds_len C l ex js es ops h.1)
 
-len_open : (C : Ctx) (l ex : List Value) (a : Option (Option ValType)) (L : Label) (Ls : List Label) (e : List Place) (ss : List (List Place)) (co : List CollectorCall) → FitsOpen C l ex a (L ∷ Ls) (e ∷ ss) → (length (tell_labels (L ∷ Ls) co) ≡ length (joined (e ∷ ss)) + length co) × (length (e ++ joined ss) ≤ C.slots)
-len_open C l ex None L Ls e ss co h = (
+len_open : (C : Ctx) (l ex : List Value) (a : Doing) (L : Label) (Ls : List Label) (e : List Place) (ss : List (List Place)) (co : List CollectorCall) → FitsOpen C l ex a (L ∷ Ls) (e ∷ ss) → (length (tell_labels (L ∷ Ls) co) ≡ length (joined (e ∷ ss)) + length co) × (length (e ++ joined ss) ≤ C.slots)
+len_open C l ex (Runs n) L Ls e ss co h = (
   omega (arith, len_ops L.operands (tell_labels Ls co), len_but C (passes C L.nodes) l ex (joined ss) e L.operands h.0, len_labels C [] ex (awaits (pending L.kind)) Ls ss co h.4, length-append e (joined ss)),
   room_height C (e ++ joined ss) L.nodes h.2,
 )
-len_open C l ex (Some a) L Ls e ss co h =
+len_open C l ex (Waits a) L Ls e ss co h =
     (len_labels C l ex a (L ∷ Ls) (e ∷ ss) co h, omega (arith, grown_longer a (e ++ joined ss), room_height C (grown a (e ++ joined ss)) L.nodes h.2))
 
-len_frame_in : (M : Engine) (E : ℕ) (gl : List ValType) (a : Option (Option ValType)) (k o : ℕ) (C : Ctx) (ex : List Value) (ss : List (List Place)) (others : Option UnderWay) (ix cl : ℕ) (r : Option ValType) (l : List Value) (Ls : List Label) (co : List CollectorCall) → FitsFrame M E gl a (frame ix r cl l Ls) (wit_under C ex ss others) → length (tell_frame k o (frame ix r cl l Ls) co) ≤ suc ((greatest M.program).0 + (greatest M.program).1) + length co
+len_frame_in : (M : Engine) (E : ℕ) (gl : List ValType) (a : Doing) (k o : ℕ) (C : Ctx) (ex : List Value) (ss : List (List Place)) (others : Option UnderWay) (ix cl : ℕ) (r : Option ValType) (l : List Value) (Ls : List Label) (co : List CollectorCall) → FitsFrame M E gl a (frame ix r cl l Ls) (wit_under C ex ss others) → length (tell_frame k o (frame ix r cl l Ls) co) ≤ suc ((greatest M.program).0 + (greatest M.program).1) + length co
 len_frame_in M E gl a k o C ex ss others ix cl r l [] co f = absurd f.labels
 len_frame_in M E gl a k o C ex [] others ix cl r l (L ∷ Ls) co f = absurd f.labels
 len_frame_in M E gl a k o C ex (e ∷ ss) others ix cl r l (L ∷ Ls) co f =
@@ -131,17 +131,17 @@ len_outer : (M : Engine) (E : ℕ) (gl : List ValType) (wr r : Option ValType) (
 len_outer M E gl wr r [] ws co h = omega arith
 len_outer M E gl wr r (F ∷ Fs) [] co h = absurd h
 len_outer M E gl wr r (F ∷ Fs) (w ∷ ws) co h =
-    omega (arith, len_outer M E gl wr F.result Fs ws (tell_frame 0 F.call F co) h.1, len_frame_in M E gl (Some r) 0 F.call w.ctx w.ex w.ss w.under_way F.function F.call F.result F.locals F.labels co h.0)
+    omega (arith, len_outer M E gl wr F.result Fs ws (tell_frame 0 F.call F co) h.1, len_frame_in M E gl (Waits r) 0 F.call w.ctx w.ex w.ss w.under_way F.function F.call F.result F.locals F.labels co h.0)
 
-len_top : (M : Engine) (E : ℕ) (gl : List ValType) (wr : Option ValType) (k : ℕ) (Fs : List Frame) (ws : List Wit) (co : List CollectorCall) → FitsTop M E gl wr Fs ws → length (tell_frames k Fs co) ≤ length Fs * suc ((greatest M.program).0 + (greatest M.program).1) + length co
-len_top M E gl wr k [] ws co h = absurd h
-len_top M E gl wr k (F ∷ Fs) [] co h = absurd h
-len_top M E gl wr k (F ∷ Fs) (w ∷ ws) co h =
-    omega (arith, len_outer M E gl wr F.result Fs ws (tell_frame k (offset_of F.labels) F co) h.1, len_frame_in M E gl None k (offset_of F.labels) w.ctx w.ex w.ss w.under_way F.function F.call F.result F.locals F.labels co h.0)
+len_top : (M : Engine) (E : ℕ) (gl : List ValType) (g : World) (wr : Option ValType) (k : ℕ) (Fs : List Frame) (ws : List Wit) (co : List CollectorCall) → FitsTop M E gl g wr Fs ws → length (tell_frames k Fs co) ≤ length Fs * suc ((greatest M.program).0 + (greatest M.program).1) + length co
+len_top M E gl g wr k [] ws co h = absurd h
+len_top M E gl g wr k (F ∷ Fs) [] co h = absurd h
+len_top M E gl g wr k (F ∷ Fs) (w ∷ ws) co h =
+    omega (arith, len_outer M E gl wr F.result Fs ws (tell_frame k (offset_of F.labels) F co) h.1, len_frame_in M E gl (running g) k (offset_of F.labels) w.ctx w.ex w.ss w.under_way F.function F.call F.result F.locals F.labels co h.0)
 
 pub few_calls : (M : Engine) (E : ℕ) (gl : List ValType) (wr : Option ValType) (k : ℕ) (c : Config) (ws : List Wit) → FitsConfig M E gl wr c ws → c.collected ≡ [] → length c.frames ≤ 10000 → (greatest M.program).0 ≤ 10000 → (greatest M.program).1 ≤ 1000 → length c.world.globals ≤ 20000000 → length (reverse (collected k c)) ≤ 134217728
 few_calls M E gl wr k c ws h e d l s g =
-    let t = len_top M E gl wr k c.frames ws c.collected h.1 in
+    let t = len_top M E gl c.world wr k c.frames ws c.collected h.1 in
     let z : length c.collected ≡ 0 = ap length e in
     let narrow : suc ((greatest M.program).0 + (greatest M.program).1) ≤ 11001 = omega (arith, l, s) in
     let n : length c.frames * suc ((greatest M.program).0 + (greatest M.program).1) ≤ 10000 * 11001 = mul-le-mul d narrow in

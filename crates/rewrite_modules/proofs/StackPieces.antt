@@ -24,10 +24,10 @@ use Rattle.wasm_syntax.specs.Machine.{result_of}
 use Rattle.wasm_syntax.specs.Typing.{BasicTypes, JumpTypes, Types}
 use Rattle.wasm_syntax.specs.Run.{table_min}
 use Rattle.rewrite_bodies.specs.Numbering.{import_count, mapped, value_import, frame_import, flag_of, value_type, frame_type, doubles}
-use Rattle.rewrite_bodies.specs.calls.Slots.{Place, Spilled, Known, Copied, place_type, Ctx, slot, kind_at, offset_at, less, pushed, grown, uncopied, under, result_type, result_place, freed, after_plain, Landing, local_written}
+use Rattle.rewrite_bodies.specs.calls.Slots.{Place, Spilled, Known, Copied, place_type, Ctx, slot, kind_at, offset_at, less, pushed, grown, uncopied, under, result_type, result_place, freed, after_plain, Landing, local_written, length_at, measured}
 use Rattle.rewrite_bodies.specs.calls.Pieces.{get, set, const, i32, call, if_any, fetch, load, keep_slot, keep, store, reload, spill_one, spill, drops}
-use Rattle.rewrite_bodies.specs.calls.Guards.{guard, can_trap, least, minus_one, less_word, past_end, beyond_word, out_test, range_test, guard_zero, guard_signed, guard_memory, kind, helper, helper_type, length_of, get_length, set_length, renewed, renew}
-use Rattle.rewrite_bodies.specs.calls.Rewrite.{hand_value, hand, hand_top, to_exit, unwind, test_flag, hand_left, test_both, unwind_kind, tested, guarded, passes, free, plain, with_result, after_direct, call_code, helper_of, past_shown, indirect_code, rewrite, hand_locals, raise_flag, zero_result, exit_code, body, checked, get_flag, hand_carried, landing_code, nested, laid, free_at, grows, lengthened}
+use Rattle.rewrite_bodies.specs.calls.Guards.{guard, can_trap, least, minus_one, less_word, past_end, beyond_word, out_test, range_test, guard_zero, guard_signed, guard_memory, kind, helper, helper_type, length_of, get_length, set_length, renewed, measure, renew_both}
+use Rattle.rewrite_bodies.specs.calls.Rewrite.{hand_value, hand, hand_top, to_exit, unwind, test_flag, hand_left, test_both, unwind_kind, tested, guarded, passes, free, plain, with_result, after_direct, call_code, helper_of, past_shown, indirect_code, rewrite, hand_locals, raise_flag, zero_result, exit_code, body, checked, get_flag, hand_carried, landing_code, nested, laid, free_at, grows, lengthened, blocks}
 use Rattle.rewrite_bodies.specs.calls.Typed.{Info, in_block, in_loop, in_body, Offers, original}
 use Rattle.rewrite_bodies.specs.calls.Agreement.{Room_call, Room}
 use Rattle.rewrite_bodies.proofs.Sim.{grown-append}
@@ -64,9 +64,20 @@ module _ (m : Module) (N : ℕ) where
   renewed_under [] src b k r u = u
   renewed_under (l ∷ ls) src b k r u = set_under src b k r u
 
+  -- and read
+  measure_under : (q : Bool) (C : Ctx) (b : ℕ) (k : Nodes) → b + 2 ≤ N → Under m N b k → Under m N b (measure q C k)
+  measure_under false C b k r u = u
+  measure_under true C b k r u =
+      let k1 = set C (length_at C) k in
+      let u1 : Under m N (suc b) k1 = one_under (suc b) (LocalSet (length C.locals + length_at C)) b k (omega (arith, r)) (omega arith) u in
+      one_under b (GlobalGet (length_of C.source)) (suc b) k1 (omega (arith, r)) (omega arith) u1
+
+  both_under : (C : Ctx) (b : ℕ) (k : Nodes) → b + 2 ≤ N → Under m N b k → Under m N b (renew_both C k)
+  both_under C b k r u = renewed_under C.source.memories C.source b (measure (measured C) C k) r (measure_under (measured C) C b k r u)
+
   lengthened_under : (q : Bool) (C : Ctx) (b : ℕ) (k : Nodes) → b + 2 ≤ N → Under m N b k → Under m N b (lengthened q C k)
   lengthened_under false C b k r u = u
-  lengthened_under true C b k r u = set_under C.source b k r u
+  lengthened_under true C b k r u = set_under C.source b (measure (measured C) C k) r (measure_under (measured C) C b k r u)
 
 at_most_one : {A : Type 0} (o : Option A) → length (option_to_list o) ≤ 1
 at_most_one None = omega arith
@@ -228,10 +239,10 @@ module _ (C : Ctx) (m : Module) (locals : List ValType) (off : Offers C m locals
       let u6 : U (suc (suc b)) k6 = u_basic (suc (suc b)) (Compare t Eq) (suc b) k5 (omega (arith, r)) (omega arith) u5 in
       u_fetch b a h (const (least t) k6) (omega (arith, r)) (u_const (suc b) (least t) k6 (omega (arith, r)) u6)
 
-  u_length : (b : ℕ) → b ≤ N → (k : Nodes) → U (suc b) k → U b (get_length C.source k)
-  u_length b r k u = u_basic b (GlobalGet (length_of C.source)) (suc b) k r (omega arith) u
+  u_length : (b : ℕ) → b ≤ N → (k : Nodes) → U (suc b) k → U b (get_length C k)
+  u_length b r k u = u_get b (length_at C) k r u
 
-  u_past : (b : ℕ) → b + 8 ≤ N → (k : Nodes) → U (suc b) k → U (suc b) (past_end C.source k)
+  u_past : (b : ℕ) → b + 8 ≤ N → (k : Nodes) → U (suc b) k → U (suc b) (past_end C k)
   u_past b r k u =
       let k1 = basic 0 (Compare I64 GtU) k in
       let u1 : U (suc (suc b)) k1 = u_basic (suc (suc b)) (Compare I64 GtU) (suc b) k (omega (arith, r)) (omega arith) u in
@@ -254,13 +265,13 @@ module _ (C : Ctx) (m : Module) (locals : List ValType) (off : Offers C m locals
       let u1 : U (suc (suc b)) k1 = u_basic (suc (suc b)) (Compare I64 GtS) (suc b) k (omega (arith, r)) (omega arith) u in
       let k3 = beyond_word (n == 4) n k1 in
       let u3 : U (suc (suc b)) k3 = u_beyond (n == 4) b (omega (arith, r)) n k1 u1 in
-      let u4 : U (suc b) (get_length C.source k3) = u_length (suc b) (omega (arith, r)) k3 u3 in
-      u_fetch b a h (out_test C.source n k) (omega (arith, r)) (u_basic (suc b) (Convert ExtendU) (suc b) (get_length C.source k3) (omega (arith, r)) (omega arith) u4)
+      let u4 : U (suc b) (get_length C k3) = u_length (suc b) (omega (arith, r)) k3 u3 in
+      u_fetch b a h (out_test C n k) (omega (arith, r)) (u_basic (suc b) (Convert ExtendU) (suc b) (get_length C k3) (omega (arith, r)) (omega arith) u4)
 
   u_range : (b : ℕ) → b + 12 ≤ N → (a : Place) (h : ℕ) (n : Place) (hn : ℕ) (k : Nodes) → U (suc b) k → U b (range_test C a h n hn k)
   u_range b r a h n hn k u =
-      let k1 = basic 0 (Binary I64 Add) (past_end C.source k) in
-      let u1 : U (suc (suc b)) k1 = u_basic (suc (suc b)) (Binary I64 Add) (suc b) (past_end C.source k) (omega (arith, r)) (omega arith) (u_past b (omega (arith, r)) k u) in
+      let k1 = basic 0 (Binary I64 Add) (past_end C k) in
+      let u1 : U (suc (suc b)) k1 = u_basic (suc (suc b)) (Binary I64 Add) (suc b) (past_end C k) (omega (arith, r)) (omega arith) (u_past b (omega (arith, r)) k u) in
       let k2 = basic 0 (Convert ExtendU) k1 in
       let u2 : U (suc (suc b)) k2 = u_basic (suc (suc b)) (Convert ExtendU) (suc (suc b)) k1 (omega (arith, r)) (omega arith) u1 in
       let k3 = fetch C n hn k2 in
@@ -385,16 +396,19 @@ module _ (C : Ctx) (m : Module) (locals : List ValType) (off : Offers C m locals
   u_result pass None es k le u = fewer m N k (length es) (0 + length es) (omega arith) u
   u_result pass (Some t) es k le u = fewer m N (keep pass C (Some (Spilled t)) es k) (suc (length es)) (1 + length es) (omega arith) (u_tee pass (length es) t es k le u)
 
+  grown_little : (r : Option ValType) (es : List Place) → length (grown r es) ≤ suc (length es)
+  grown_little None es = omega arith
+  grown_little (Some t) es = omega arith
+
   u_after : (q : Bool) (d : ℕ) (r : Option ValType) (es : List Place) (o : ℕ) (rest : Nodes) → length es + 3 ≤ N → U (length (grown r es)) (rewrite C d (grown r es) rest) → U (length (option_to_list r) + length es) (after_direct q C d r es o (passes C rest) (λ es'. rewrite C d es' rest))
   u_after true d r es o rest le u =
-      let few = at_most_one r in
-      renewed_under m N C.source.memories C.source (length (option_to_list r) + length es) (with_result C r es (passes C rest) (λ es'. rewrite C d es' rest)) (omega (arith, le, few)) (u_result (passes C rest) r es (rewrite C d (grown r es) rest) (omega (arith, le)) u)
-  u_after false d None es o rest le u = fewer m N (test_flag C d es o (rewrite C d es rest)) (length es) (0 + length es) (omega arith) (u_flag (length es) d es o (rewrite C d es rest) (omega (arith, le)) u)
-  u_after false d (Some t) es o rest le u =
-      let pass = passes C rest in
-      let k = test_flag C d es o (rewrite C d (Spilled t ∷ es) rest) in
-      fewer m N (keep pass C (Some (Spilled t)) es k) (suc (length es)) (1 + length es) (omega arith)
-      (u_tee pass (length es) t es k (omega (arith, le)) (u_flag (suc (length es)) d es o (rewrite C d (Spilled t ∷ es) rest) (omega (arith, le)) u))
+      let k = rewrite C d (grown r es) rest in
+      u_result (passes C rest) r es (renew_both C k) (omega (arith, le)) (both_under m N C (length (grown r es)) k (omega (arith, le, grown_little r es)) u)
+  u_after false d r es o rest le u =
+      let k = rewrite C d (grown r es) rest in
+      let km = measure (measured C) C k in
+      let r2 : length (grown r es) + 2 ≤ N = omega (arith, le, grown_little r es) in
+      u_result (passes C rest) r es (test_flag C d es o km) (omega (arith, le)) (u_flag (length (grown r es)) d es o km (omega (arith, r2)) (measure_under m N (measured C) C (length (grown r es)) k r2 u))
 
   -- what is left behind a call
   abbrev Left : FuncType → List Info → List Place → Nodes → Type 0
@@ -454,9 +468,9 @@ module _ (C : Ctx) (m : Module) (locals : List ValType) (off : Offers C m locals
       let u_next : U (length (grown r left)) next_ = u_left type ls own js rest between h.3.below one tk h.3.gives rm1.1 ih in
       let grown_len : length (grown r left) ≡ length (option_to_list r) + length left = grown_count r left in
       let loaded = reload C r left next_ in
-      let back = renew C.source loaded in
+      let back = renew_both C loaded in
       let u_loaded : U (length left) loaded = u_reload (length left) r left next_ (omega (arith, fit, lm)) (fewer m N next_ (length (grown r left)) (length (option_to_list r) + length left) (omega (arith, grown_len)) u_next) in
-      let u_back : U (length left) back = renewed_under m N C.source.memories C.source (length left) loaded (omega (arith, fit, lm)) u_loaded in
+      let u_back : U (length left) back = both_under m N C (length left) loaded (omega (arith, fit, lm)) u_loaded in
       let u_drop : U b (drops (suc n) back) = fewer m N (drops (suc n) back) (suc n + length left) b (omega (arith, lm, enough)) (u_drops (length left) (suc n) back (omega (arith, lm, enough, fit)) u_back) in
       let others = hand_top C (suc n) (p ∷ es) stop in
       let call_ = jump 0 (CallIndirect t) (store C r left stop) in
@@ -617,7 +631,8 @@ module _ (C : Ctx) (m : Module) (locals : List ValType) (off : Offers C m locals
   u_laid nodes rm ty =
       let a = u_rewrite nodes (in_body C.result ∷ []) [] [] [] (option_to_list C.result) refl tt rm ty in
       let core = block 0 C.result (rewrite C 1 [] nodes) 0 (jump 0 Return stop) in
-      (omega arith, u_nested C.landings core (omega arith, a, fewer m N (jump 0 Return stop) (length (option_to_list C.result)) (length (option_to_list C.result) + 0) (omega arith) (u_returned C.result)), u_exit_code)
+      let u : U 0 (blocks C nodes) = (omega arith, u_nested C.landings core (omega arith, a, fewer m N (jump 0 Return stop) (length (option_to_list C.result)) (length (option_to_list C.result) + 0) (omega arith) (u_returned C.result)), u_exit_code) in
+      measure_under m N (measured C) C 0 (blocks C nodes) (omega (arith, room)) u
 
 pub u_body : (C : Ctx) (m : Module) (locals : List ValType) → Offers C m locals → (N : ℕ) → 2 * C.slots + 16 ≤ N → (nodes : Nodes) → Room C [] nodes → Types (original C (in_body C.result ∷ [])) nodes [] (option_to_list C.result) → Under m N 0 (body C nodes)
 u_body C m locals off N room nodes rm ty =

@@ -1,6 +1,6 @@
 -- One invocation by its wrapper.
 use Rattle.rewrite_bodies.specs.calls.Landings.{landings_from, with_landings, landed}
-use Rattle.rewrite_bodies.proofs.Laid.{few_landings, room_landed, into_body}
+use Rattle.rewrite_bodies.proofs.Laid.{few_landings, room_landed, into_function}
 use Rattle.std.proofs.Common.{◌≡◌, ℕ, zero, suc, ◌+◌, ◌*◌, ◌<◌, ◌≤◌, List, [], ◌∷◌, ◌++◌, length, reverse, Option, Some, true, nat_lt, refl, sym, ap, ap₂, ◌∙◌, subst, subst₂, arith, append_assoc, append-nil, length-append, ◌⊎◌, inl, inr, slice_get, lt-ltb, mul-le-mul_right}
 use Rattle.wasm_syntax.specs.declared.value.ValType.{ValType}
 use Rattle.wasm_syntax.specs.declared.value.Value.{Value}
@@ -16,7 +16,7 @@ use Rattle.wasm_syntax.specs.Host.{World}
 use Rattle.wasm_syntax.specs.declared.host.CollectorCall.{CollectorCall}
 use Rattle.wasm_syntax.specs.declared.host.CollectorCall.TheVariants as collector_calls
 use Rattle.wasm_syntax.specs.Machine.{returns, Config, label, frame, config, Engine, Stepped, next, ends, traps, no_reply, bad_reply, stuck, parts, cut, exactly, zeros, result_of, entered, step}
-use Rattle.rewrite_bodies.specs.calls.Slots.{Ctx, added, ctx_of}
+use Rattle.rewrite_bodies.specs.calls.Slots.{Ctx, added, ctx_of, measured}
 use Rattle.rewrite_bodies.specs.Numbering.{mapped, frame_import, flag_of, global_types}
 use Rattle.rewrite_bodies.specs.calls.Pieces.{const, i32, call, if_any, tree_of}
 use Rattle.rewrite_bodies.specs.calls.Rewrite.{passes, body}
@@ -31,6 +31,7 @@ use Rattle.dump_write.specs.Collected.{value_call}
 use Rattle.rewrite_bodies.specs.calls.Telling.{tell_locals, tell_frames, collected}
 use Rattle.rewrite_bodies.specs.calls.Standing.{Linked, Speaks, Stands}
 use Rattle.rewrite_bodies.proofs.Sim.{len_of, wit, armed, if_zero_to, if_up_to}
+use Rattle.rewrite_bodies.proofs.Told.{remeasured, types_told, has_told}
 use Rattle.rewrite_bodies.proofs.Measures.{get_first, put_first, renew_to}
 use Rattle.rewrite_bodies.proofs.Unwind.{value_to, entry_to, get_middle}
 use Rattle.rewrite_bodies.proofs.Calls.{types-locals, new_locals}
@@ -199,7 +200,7 @@ module _ (M M' : Engine) (E : ℕ) (gl : List ValType) (S : Stands M M' E gl) (g
     D = with_landings C tree.nodes
 
     abbrev pub w0 : Wit
-    w0 = wit D (zeros (added k.slots)) ([] ∷ [])
+    w0 = wit D (remeasured (measured D) D (told_length g.memory) (zeros (added k.slots))) ([] ∷ [])
 
     abbrev pub wtree : Tree
     wtree = tree_of (wrapper_nodes m f (length type.params))
@@ -211,7 +212,7 @@ module _ (M M' : Engine) (E : ℕ) (gl : List ValType) (S : Stands M M' E gl) (g
     target = config (entered wi wb wtree type args ∷ []) (flagged M g (values.I32 up)) []
 
     pub fits : FitsConfig M E gl W.result source (w0 ∷ [])
-    fits = (wf, (record { size = types-locals args type.params (declared_locals b.groups) ty; room = zero_types (added k.slots); idx = refl; result = refl; funcs = refl; base = refl; helpers = refl; flag = sym gm; small = k.small; exposed = ap (λ q. exposed_in m.memories (nodes_of q)) (sym at); narrow = k.narrow; labels = (loosened D (passes D tree.nodes) (args ++ zeros (declared_locals b.groups)) (zeros (added k.slots)) [] [] [] tt, tt, room_landed C (exposed_in m.memories tree.nodes) (landings_from (landed C (exposed_in m.memories tree.nodes) []) [] tree.nodes []) [] tree.nodes k.room, refl, tt); no_kind = tt }, refl), begins_known M f b tree type args g [] at wf.least)
+    fits = (wf, (record { size = types-locals args type.params (declared_locals b.groups) ty; room = types_told (measured D) D (told_length g.memory) (zeros (added k.slots)) (zero_types (added k.slots)) ∙ zero_types (added k.slots); idx = refl; result = refl; funcs = refl; base = refl; helpers = refl; flag = sym gm; small = k.small; exposed = ap (λ q. exposed_in m.memories (nodes_of q)) (sym at); narrow = k.narrow; labels = (loosened D (passes D tree.nodes) (args ++ zeros (declared_locals b.groups)) w0.ex [] [] [] tt, has_told D (told_length g.memory) (zeros (added k.slots)) (zero_types (added k.slots)), room_landed C (exposed_in m.memories tree.nodes) (landings_from (landed C (exposed_in m.memories tree.nodes) []) [] tree.nodes []) [] tree.nodes k.room, refl, tt); no_kind = tt }, refl), begins_known M f b tree type args g [] at wf.least)
 
     pub begin : To M' 1 (length type.params + 38) target (image M W source (w0 ∷ []))
     begin =
@@ -239,7 +240,9 @@ module _ (M M' : Engine) (E : ℕ) (gl : List ValType) (S : Stands M M' E gl) (g
         let tys : same_types (types args) type.params ≡ true = ap (λ z. same_types z type.params) ty ∙ same_types_refl type.params in
         let locals : args ++ zeros (declared_locals k.new.groups) ≡ (args ++ zeros (declared_locals b.groups)) ++ ex = new_locals args (declared_locals k.new.groups) (declared_locals b.groups) (added k.slots) k.locals in
         let s4 : To M' 1 1 (st X args (reverse args) kc g0 []) mid = one_step M' _ _ (rw (k.target, whole, twice, tys, depth, locals) refl) in
-        let s5 : To M' 0 25 mid (image M W source (w0 ∷ [])) = into_body M' (mapped m f) (result_of type) ((args ++ zeros (declared_locals b.groups)) ++ ex) (caller ∷ []) g0 [] D tree.nodes (few_landings (landed C (exposed_in m.memories tree.nodes) []) [] tree.nodes [] (omega arith)) in
+        let own = args ++ zeros (declared_locals b.groups) in
+        let size : length D.locals ≡ length own = len_of own D.locals (types-locals args type.params (declared_locals b.groups) ty) in
+        let s5 : To M' 0 27 mid (image M W source (w0 ∷ [])) = into_function M' M (mapped m f) (result_of type) (caller ∷ []) g [] D own ex tree.nodes size (zero_types (added k.slots)) fl (few_landings (landed C (exposed_in m.memories tree.nodes) []) [] tree.nodes [] (omega arith)) in
         subst (λ z. To M' 1 (length type.params + 38) (config (z ∷ []) gu []) (image M W source (w0 ∷ []))) (sym noted) (weaken M' (seq M' s1 (seq M' s2 (seq M' s2b (seq M' s3 (seq M' s4 s5))))) (omega arith) (omega arith))
 
     abbrev pub target_run : ℕ → Ended

@@ -73,7 +73,7 @@ module _ (m : Module) (x : Instrumentable m) (sized : Sized m) where
       let ty : type_at m (length m.imports + i) ≡ Some type = type_is_of p f (defined b tree type) at in
       let locals : local_count (type_at m (length m.imports + i)) b ≡ length type.params + sum (map (λ g. g.count) b.groups) = ap (λ o. local_count o b) ty in
       let all_locals : length C.locals ≡ length type.params + sum (map (λ g. g.count) b.groups) = omega (arith, length-append type.params (declared_locals b.groups), declared_length b.groups) in
-      let low : length C.locals + (2 * slots + 4) ≤ 268435456 = omega (arith, fits.0, fits.1, given.few_locals, given.few_heights) in
+      let low : length C.locals + (2 * slots + 5) ≤ 268435456 = omega (arith, fits.0, fits.1, given.few_locals, given.few_heights) in
       let low1 : import_count C.source + 3 ≤ 268435456 = omega (arith, few_imports) in
       let one : reverse type.results ≡ option_to_list (result_of type) = one_result type.results (typed_.few f (defined b tree type) at) in
       let room = room_of (ctx_of p f b type 0) slots tree.nodes [] (ready.static d.number tree d.tree_is) (omega arith) in

@@ -176,7 +176,7 @@ group_few n t =
 added_total : (n : ℕ) → groups_total (groups n) ≤ 4 * n + 8
 added_total n =
     let a = group_few (n + 3) I32 in
-    let b = group_few (n + 1) I64 in
+    let b = group_few (n + 2) I64 in
     omega (arith, a, b)
 
 pub group_some : (g : LocalGroup) → 1 ≤ length (group_bytes g)

@@ -9,10 +9,10 @@ use Rattle.wasm_syntax.specs.Tree.{CallIndirect, Nodes, stop, basic, jump, choos
 use Rattle.wasm_syntax.specs.Machine.{result_of}
 use Rattle.rewrite_bodies.specs.Numbering.{import_count, mapped, flag_of, doubles}
 use Rattle.wasm_syntax.specs.Run.{table_min}
-use Rattle.rewrite_bodies.specs.calls.Slots.{Place, Spilled, Ctx, less, kind_at, offset_at}
+use Rattle.rewrite_bodies.specs.calls.Slots.{Place, Spilled, Ctx, less, kind_at, offset_at, measured}
 use Rattle.rewrite_bodies.specs.calls.Pieces.{get, set, const, i32, call, fetch, load, keep, store, reload, drops}
 use Rattle.rewrite_bodies.specs.calls.Rewrite.{to_exit, unwind, test_flag, hand, hand_top, hand_left, test_both, after_call, after_direct, call_code, helper_of, past_shown, indirect_code}
-use Rattle.rewrite_bodies.specs.calls.Guards.{renew}
+use Rattle.rewrite_bodies.specs.calls.Guards.{measure, renew_both}
 use Rattle.rewrite_code.specs.calls.Writing.{Written, Emits, EmitsLast, Opens, Closes}
 use Rattle.rewrite_code.proofs.Pieces.{emits_then, emits_last, emits_stop, emits_within}
 use Rattle.rewrite_code.specs.declared.place.OperandPlace.{OperandPlace}
@@ -21,19 +21,19 @@ use Rattle.rewrite_code.proofs.Loads.{emits_same, discarded, length_from_top, ha
 use Rattle.unwind_rewrite.proofs.Numbers.{get_at, set_at, call_at}
 use Rattle.unwind_rewrite.proofs.Branching.{less_length}
 
-pub came_back : (C : Ctx) (pass : Bool) (ls : ℕ) (r : Option ValType) (es : List Place) (o : ℕ) {a b c : Written} → Emits (keep pass C (option_map Spilled r) es) a b → Emits (test_flag C ls es o) b c → Emits (λ k. after_call C ls r es o pass (λ left. k)) a c
-came_back C pass ls r es o p q = emits_same (λ k. refl) (emits_then p q)
+pub came_back : (C : Ctx) (pass : Bool) (ls : ℕ) (r : Option ValType) (es : List Place) (o : ℕ) {a b c d : Written} → Emits (keep pass C (option_map Spilled r) es) a b → Emits (test_flag C ls es o) b c → Emits (measure (measured C) C) c d → Emits (λ k. after_call C ls r es o pass (λ left. k)) a d
+came_back C pass ls r es o p q m = emits_same (λ k. refl) (emits_then p (emits_then q m))
 
 -- what stands behind a call of a function of this type
 abbrev pub behind : Ctx → Bool → ℕ → List Place → ℕ → ℕ → FuncType → Nodes → Nodes
 behind C pass ls es o f type k = after_direct (nat_lt f (import_count C.source)) C ls (result_of type) (less (length type.params) es) o pass (λ left. k)
 
 pub came_import : (C : Ctx) (pass : Bool) (ls : ℕ) (es : List Place) (o f : ℕ) (type : FuncType) (n : ℕ) (r : Option ValType) {a b c : Written} → n ≡ length type.params → r ≡ result_of type → nat_lt f (import_count C.source) ≡ true →
-    Emits (renew C.source) c a → Emits (keep pass C (option_map Spilled r) (less n es)) a b → Emits (behind C pass ls es o f type) c b
-came_import C pass ls es o f type n r {a} {b} {c} count gives is w p =
+    Emits (keep pass C (option_map Spilled r) (less n es)) a b → Emits (renew_both C) b c → Emits (behind C pass ls es o f type) a c
+came_import C pass ls es o f type n r {a} {b} {c} count gives is p w =
     let one : Emits (keep pass C (option_map Spilled r) (less (length type.params) es)) a b = subst (λ n. Emits (keep pass C (option_map Spilled r) (less n es)) a b) count p in
     let two : Emits (keep pass C (option_map Spilled (result_of type)) (less (length type.params) es)) a b = subst (λ r. Emits (keep pass C (option_map Spilled r) (less (length type.params) es)) a b) gives one in
-    subst (λ i. Emits (λ k. after_direct i C ls (result_of type) (less (length type.params) es) o pass (λ left. k)) c b) (sym is) (emits_same (λ k. refl) (emits_then w two))
+    subst (λ i. Emits (λ k. after_direct i C ls (result_of type) (less (length type.params) es) o pass (λ left. k)) a c) (sym is) (emits_same (λ k. refl) (emits_then two w))
 
 pub came_defined : (C : Ctx) (pass : Bool) (ls : ℕ) (es : List Place) (o f : ℕ) (type : FuncType) (n : ℕ) (r : Option ValType) {a b : Written} → n ≡ length type.params → r ≡ result_of type → nat_lt f (import_count C.source) ≡ false →
     Emits (λ k. after_call C ls r (less n es) o pass (λ left. k)) a b → Emits (behind C pass ls es o f type) a b
@@ -79,7 +79,7 @@ entry_called C n t r es p m q s = emits_last p (emits_last m (emits_last q (emit
 pub through_table : (C : Ctx) (ls : ℕ) (all : List Place) (e p : Place) (es : List Place) (o t f h n : ℕ) (type : FuncType) (r : Option ValType) {a b c d g j w u v : Written} → f ≡ helper_of C t → all ≡ e ∷ es → Some p ≡ slice_get all 0 →
     h ≡ length all - 1 → n ≡ suc (length type.params) → r ≡ result_of type →
     Emits (λ k. fetch C p h (call f (set C (kind_at C) (get C (kind_at C) (basic 0 (Eqz I32) k))))) a b → Opens (λ arm k. choose 0 None arm None stop 0 k) b c →
-    EmitsLast (load C n all (past_shown (doubles C.source) C (jump 0 (CallIndirect t) (store C r (less n all) stop)))) c d → Closes d g → Emits (test_both C ls (less n all) o (hand_top C n all stop)) g j → Emits (drops n) j w → Emits (renew C.source) w u → Emits (reload C r (less n all)) u v →
+    EmitsLast (load C n all (past_shown (doubles C.source) C (jump 0 (CallIndirect t) (store C r (less n all) stop)))) c d → Closes d g → Emits (test_both C ls (less n all) o (hand_top C n all stop)) g j → Emits (drops n) j w → Emits (renew_both C) w u → Emits (reload C r (less n all)) u v →
     Emits (λ k. indirect_code C ls all o t (Some type) (λ behind. k)) a v
 through_table C ls all e p es o t f h n type r {a} {b} {c} {d} {g} {j} {w} {u} {v} helps is top at count gives q op l cl tb dr nw re =
     let m = length type.params in

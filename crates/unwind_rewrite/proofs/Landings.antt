@@ -5,7 +5,8 @@ use Rattle.std.proofs.lemmas.Option.{slice_get-get_or}
 use Rattle.std.proofs.Math.Seq.{take-suc, drop-cons}
 use Rattle.wasm_syntax.specs.declared.value.ValType.{ValType}
 use Rattle.wasm_syntax.specs.Tree.{Br, Return, Nodes, stop, jump, block}
-use Rattle.rewrite_bodies.specs.calls.Slots.{Landing, Ctx, kind_at}
+use Rattle.rewrite_bodies.specs.calls.Slots.{Landing, Ctx, kind_at, measured}
+use Rattle.rewrite_bodies.specs.calls.Guards.{measure}
 use Rattle.rewrite_bodies.specs.calls.Pieces.{set, const, i32}
 use Rattle.rewrite_bodies.specs.calls.Rewrite.{hand, hand_carried, landing_code, nested, exit_code, rewrite, laid}
 use Rattle.rewrite_code.specs.calls.Writing.{Written, Behind, ends, goes, Emits, EmitsLast, Opens, Closes}
@@ -43,9 +44,9 @@ Opening C xs left old new = (inner : Nodes) (behind : List Behind) → goes old 
 
 -- ---- the body
 
-pub body_opened : (C : Ctx) (gives : Option ValType) {a b c d : Written} → gives ≡ C.result → Opens (λ inner k. block 0 None inner 0 k) a b → OpensNested C C.landings b c → Opens (λ inner k. block 0 gives inner 0 k) c d → OpensBody C a d
-body_opened C gives {c = c} {d = d} is p q r nodes k behind =
-    p.opened (nested C C.landings (block 0 C.result nodes 0 k)) (exit_code C) behind ∙ q (block 0 C.result nodes 0 k) (ends (exit_code C) ∷ behind)
+pub body_opened : (C : Ctx) (gives : Option ValType) {s a b c d : Written} → gives ≡ C.result → Emits (measure (measured C) C) s a → Opens (λ inner k. block 0 None inner 0 k) a b → OpensNested C C.landings b c → Opens (λ inner k. block 0 gives inner 0 k) c d → OpensBody C s d
+body_opened C gives {c = c} {d = d} is m p q r nodes k behind =
+    m.emitted (block 0 None (nested C C.landings (block 0 C.result nodes 0 k)) 0 (exit_code C)) behind ∙ p.opened (nested C C.landings (block 0 C.result nodes 0 k)) (exit_code C) behind ∙ q (block 0 C.result nodes 0 k) (ends (exit_code C) ∷ behind)
     ∙ (subst (λ t. Opens (λ inner k. block 0 t inner 0 k) c d) is r).opened nodes k (behind_landings C C.landings (ends (exit_code C) ∷ behind))
 
 pub body_closed : (C : Ctx) (nodes : Nodes) {start inside w a b c d e : Written} → OpensBody C start inside → EmitsLast (rewrite C 1 [] nodes) inside w → Closes w a → Emits (jump 0 Return) a b → ClosesNested C C.landings b c → Closes c d →

@@ -16,7 +16,7 @@ use Rattle.rewrite_bodies.specs.calls.Facts.{needs}
 use Rattle.rewrite_bodies.specs.calls.Slots.{Ctx}
 use Rattle.rewrite_bodies.specs.calls.Rewrite.{any, passes, rewrite}
 use Rattle.rewrite_bodies.specs.calls.Typed.{end_gives}
-use Rattle.rewrite_bodies.proofs.Sim.{room_height}
+use Rattle.rewrite_bodies.proofs.Sim.{room_height, grown_longer}
 use Rattle.rewrite_code.specs.calls.Writing.{Written, EmitsLast}
 use Rattle.operand_spill.specs.declared.labels.OpenBlock.{OpenBlock}
 use Rattle.operand_spill.specs.calls.Labels.{info}
@@ -31,7 +31,6 @@ use Rattle.unwind_rewrite.specs.declared.points.Point.TheVariants as points
 use Rattle.unwind_rewrite.specs.calls.Numbers.{Helped, AllHelped}
 use Rattle.unwind_rewrite.specs.calls.Points.{EndsAt, Advances, Resumes, IsBehind, Holds, BeforeLast, code_in, is_last}
 use Rattle.rewrite_modules.proofs.Multiple.{code_length}
-use Rattle.rewrite_bodies.proofs.Control.{grown_longer}
 
 -- ---- whether an operand passes
 

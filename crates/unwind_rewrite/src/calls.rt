@@ -36,7 +36,8 @@ fn is_imported(context: &FunctionContext<'_, '_>, function: u32) -> bool
     function < context.map().value_import(ValType::I32)
 }
 
-/// Behind a call that took so many operands and may come back with the flag up.
+/// Behind a call that took so many operands and may come back with the flag up, or may have made
+/// the memory longer.
 fn after_call(
     context: &FunctionContext<'_, '_>,
     writer: &mut CodeWriter,
@@ -51,7 +52,8 @@ fn after_call(
         writer.new) }
 {
     keep_left(context, writer, site.passing, gives, site.places, count)?;
-    test_flag(context, writer, site, count)
+    test_flag(context, writer, site, count)?;
+    context.measure(writer)
 }
 
 /// Behind the call of a function. An import cannot come back with the flag up, but its host may
@@ -73,8 +75,8 @@ fn after_direct(
     let count = ftype.params.len();
     let gives = ftype.result_type();
     if is_imported(context, function) {
-        context.renew(writer)?;
-        keep_left(context, writer, site.passing, gives, site.places, count)
+        keep_left(context, writer, site.passing, gives, site.places, count)?;
+        context.renew(writer)
     } else {
         after_call(context, writer, site, count, gives)
     }

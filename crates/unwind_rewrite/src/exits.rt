@@ -145,11 +145,12 @@ fn close_landings(
     Ok(())
 }
 
-/// The beginning of the body: the exit block, those of the landings in it, and the body's block,
-/// which gives what the function does.
+/// The beginning of the body: the length of the memory is read, the exit block, those of the
+/// landings in it, and the body's block, which gives what the function does.
 pub fn open_body(context: &FunctionContext<'_, '_>, writer: &mut CodeWriter) -> Result<(), NoMemory>
     ensures { OnOk result (OpensBody context.now writer.old writer.new) }
 {
+    context.measure(writer)?;
     writer.open_block(None)?;
     open_landings(context, writer)?;
     writer.open_block(context.gives())

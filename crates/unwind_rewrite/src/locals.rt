@@ -21,7 +21,7 @@ fn push_added(out: &mut Vec<LocalGroup>, slots: u32) -> Result<(), NoMemory>
     ensures { OnOk result (out.new.items ≡ out.old.items ++ groups slots) }
 {
     out.push(local_group(slots + 3, ValType::I32))?;
-    out.push(local_group(slots + 1, ValType::I64))?;
+    out.push(local_group(slots + 2, ValType::I64))?;
     Ok(())
 }
 

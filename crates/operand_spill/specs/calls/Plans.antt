@@ -28,25 +28,27 @@ planned locals slots = record { locals = locals; slots = slots }
 
 -- all locals have numbers of 32 bits
 abbrev pub Fits : Planned → Type 0
-Fits plan = length plan.locals + 2 * plan.slots + 4 < 2 ^ 32
+Fits plan = length plan.locals + 2 * plan.slots + 5 < 2 ^ 32
 
 -- the plan is that of function f of a program: there are as many heights as the rewriting of its body has
 pub record IsPlan (p : Program) (f : ℕ) (body : Body) (tree : Tree) (type : FuncType) (plan : Planned) : Type 0 where
   pub locals : plan.locals ≡ type.params ++ declared_locals body.groups
   pub slots : plan.slots ≡ slots_of p f body tree type
 
--- an added local: the slot of a type at a height, the result of a type, the kind and the offset of a trap
+-- an added local: the slot of a type at a height, the result of a type, the kind and the offset of a trap, the length of the memory
 pub data AddedLocal : Type 0 where
   Slot : (t : ValType) (height : ℕ) → AddedLocal
   Result : (t : ValType) → AddedLocal
   Kind : AddedLocal
   Offset : AddedLocal
+  Length : AddedLocal
 
 abbrev pub IsAdded : Planned → AddedLocal → Type 0
 IsAdded plan (Slot t height) = height < plan.slots
 IsAdded plan (Result t) = Unit {0}
 IsAdded plan Kind = Unit {0}
 IsAdded plan Offset = Unit {0}
+IsAdded plan Length = Unit {0}
 
 -- its place among all locals of the rewritten function
 abbrev pub number : Planned → AddedLocal → ℕ
@@ -54,3 +56,4 @@ number plan (Slot t height) = length plan.locals + slot plan.slots t height
 number plan (Result t) = length plan.locals + slot plan.slots t plan.slots
 number plan Kind = length plan.locals + (plan.slots + 1)
 number plan Offset = length plan.locals + (plan.slots + 2)
+number plan Length = length plan.locals + (2 * plan.slots + 4)

@@ -6,8 +6,8 @@ use Rattle.wasm_syntax.specs.Numbers.{type_of, types}
 use Rattle.wasm_syntax.specs.Tree.{Nodes, basic, Jump, Unreachable, Br, BrIf, BrTable, Return, Call, CallIndirect, stop, jump, block, loop, choose}
 use Rattle.wasm_syntax.specs.Host.{World}
 use Rattle.wasm_syntax.specs.Machine.{Kind, Label, Frame, Config, label, frame, config, Engine, leaves, again, returns, zero_of, result_of}
-use Rattle.rewrite_bodies.specs.calls.Guards.{first_table, less_word, length_of, renew}
-use Rattle.rewrite_bodies.specs.calls.Slots.{Place, Spilled, Known, Copied, place_type, Ctx, slot, kind_at, added, less, grown, under, result_type, after_plain, greatest, Landing}
+use Rattle.rewrite_bodies.specs.calls.Guards.{first_table, less_word, renew_both}
+use Rattle.rewrite_bodies.specs.calls.Slots.{Place, Spilled, Known, Copied, place_type, Ctx, slot, kind_at, length_at, added, measured, less, grown, under, result_type, after_plain, greatest, Landing}
 use Rattle.rewrite_bodies.specs.calls.Pieces.{store, reload, drops}
 use Rattle.wasm_syntax.specs.declared.value.Value.TheVariants as values
 use Rattle.wasm_syntax.specs.declared.parts.FuncType.{FuncType}
@@ -64,7 +64,7 @@ now = Arrives None
 abbrev pub code_at : Ctx → ℕ → List Place → Pending → Nodes → Nodes
 code_at C d es (Arrives a) rest = with_result C a es (passes C rest) (λ es'. rewrite C d es' rest)
 code_at C d es (Called o r) rest = after_call C d r es o (passes C rest) (λ es'. rewrite C d es' rest)
-code_at C d es (Through o r u) rest = test_both C d es o u.others (drops (length u.taken) (renew C.source (reload C r es (rewrite C d (grown r es) rest))))
+code_at C d es (Through o r u) rest = test_both C d es o u.others (drops (length u.taken) (renew_both C (reload C r es (rewrite C d (grown r es) rest))))
 
 -- its operands besides the original's
 abbrev pub held : Pending → List Value → List Value
@@ -168,13 +168,22 @@ FitsLabels C l ex a (L ∷ Ls) [] = ⊥
 FitsLabels C l ex a (L ∷ Ls) (e ∷ ss) =
     Holds C l ex (joined ss) L.operands e × FitsIn C a (e ++ joined ss) × Room C (grown a (e ++ joined ss)) L.nodes × KindFits C (joined ss) L.kind Ls × FitsLabels C [] ex (awaits (pending L.kind)) Ls ss
 
+-- what a frame does: it goes on, where this tells the length of the memory, or waits for the result of a call
+pub data Doing : Type 0 where
+  Runs : (told : ℕ) → Doing
+  Waits : (r : Option ValType) → Doing
+
+-- the local of the length has this one, in a function that keeps it; nothing is asked of it where a call may change the length
+abbrev pub HasLength : Ctx → List Value → ℕ → Type 0
+HasLength C ex n = measured C ≡ true → slice_get ex (length_at C) ≡ Some (values.I64 n)
+
 -- and there is one, which goes on, or waits for the result of a call
-abbrev pub FitsOpen : Ctx → List Value → List Value → Option (Option ValType) → List Label → List (List Place) → Type 0
+abbrev pub FitsOpen : Ctx → List Value → List Value → Doing → List Label → List (List Place) → Type 0
 FitsOpen C l ex a [] ss = ⊥
 FitsOpen C l ex a (L ∷ Ls) [] = ⊥
-FitsOpen C l ex None (L ∷ Ls) (e ∷ ss) =
-    HoldsBut C (passes C L.nodes) l ex (joined ss) L.operands e × FitsIn C None (e ++ joined ss) × Room C (e ++ joined ss) L.nodes × KindFits C (joined ss) L.kind Ls × FitsLabels C [] ex (awaits (pending L.kind)) Ls ss
-FitsOpen C l ex (Some a) (L ∷ Ls) (e ∷ ss) = FitsLabels C l ex a (L ∷ Ls) (e ∷ ss)
+FitsOpen C l ex (Runs n) (L ∷ Ls) (e ∷ ss) =
+    HoldsBut C (passes C L.nodes) l ex (joined ss) L.operands e × HasLength C ex n × Room C (e ++ joined ss) L.nodes × KindFits C (joined ss) L.kind Ls × FitsLabels C [] ex (awaits (pending L.kind)) Ls ss
+FitsOpen C l ex (Waits a) (L ∷ Ls) (e ∷ ss) = FitsLabels C l ex a (L ∷ Ls) (e ∷ ss)
 
 -- whole pages, and not too many
 abbrev pub MemoryFits : Option Memory → Type 0
@@ -186,12 +195,16 @@ abbrev pub byte_count : Option Memory → ℕ
 byte_count None = 0
 byte_count (Some m) = length m.bytes
 
--- what the global of the length has for this memory
+-- what the global and the local of the length have for this memory
 abbrev pub told_length : Option Memory → ℕ
 told_length memory = less_word (byte_count memory)
 
-abbrev pub TellsLength : Ctx → World → Option Memory → Type 0
-TellsLength C w memory = slice_get w.globals (length_of C.source) ≡ Some (values.I64 (told_length memory))
+abbrev pub TellsLength : Ctx → List Value → Option Memory → Type 0
+TellsLength C ex memory = slice_get ex (length_at C) ≡ Some (values.I64 (told_length memory))
+
+-- a frame that runs in this world
+abbrev pub running : World → Doing
+running w = Runs (told_length w.memory)
 
 -- under a call through the table, the guard gave no kind, and its operands had room
 abbrev pub NoKind : Ctx → List Value → Option UnderWay → Type 0
@@ -204,7 +217,7 @@ pub record WorldFits (M : Engine) (gl : List ValType) (w : World) : Type 0 where
   pub least : HasLeast M.program.module_.memories w.memory
   pub table : w.table ≡ first_table M.program.module_
 
-pub record FitsFrame (M : Engine) (E : ℕ) (gl : List ValType) (a : Option (Option ValType)) (F : Frame) (w : Wit) : Type 0 where
+pub record FitsFrame (M : Engine) (E : ℕ) (gl : List ValType) (a : Doing) (F : Frame) (w : Wit) : Type 0 where
   pub size : types F.locals ≡ w.ctx.locals
   pub room : types w.ex ≡ added w.ctx.slots
   pub idx : w.ctx.index ≡ F.function
@@ -223,15 +236,16 @@ abbrev pub FitsFrames : Engine → ℕ → List ValType → Option ValType → O
 FitsFrames M E gl wr r [] [] = r ≡ wr
 FitsFrames M E gl wr r [] (_ ∷ _) = ⊥
 FitsFrames M E gl wr r (F ∷ Fs) [] = ⊥
-FitsFrames M E gl wr r (F ∷ Fs) (w ∷ ws) = FitsFrame M E gl (Some r) F w × FitsFrames M E gl wr F.result Fs ws
+FitsFrames M E gl wr r (F ∷ Fs) (w ∷ ws) = FitsFrame M E gl (Waits r) F w × FitsFrames M E gl wr F.result Fs ws
 
-abbrev pub FitsTop : Engine → ℕ → List ValType → Option ValType → List Frame → List Wit → Type 0
-FitsTop M E gl wr [] ws = ⊥
-FitsTop M E gl wr (F ∷ Fs) [] = ⊥
-FitsTop M E gl wr (F ∷ Fs) (w ∷ ws) = FitsFrame M E gl None F w × FitsFrames M E gl wr F.result Fs ws
+-- the innermost one runs in this world
+abbrev pub FitsTop : Engine → ℕ → List ValType → World → Option ValType → List Frame → List Wit → Type 0
+FitsTop M E gl g wr [] ws = ⊥
+FitsTop M E gl g wr (F ∷ Fs) [] = ⊥
+FitsTop M E gl g wr (F ∷ Fs) (w ∷ ws) = FitsFrame M E gl (running g) F w × FitsFrames M E gl wr F.result Fs ws
 
 abbrev pub FitsConfig : Engine → ℕ → List ValType → Option ValType → Config → List Wit → Type 0
-FitsConfig M E gl wr c ws = WorldFits M gl c.world × FitsTop M E gl wr c.frames ws × KnownConfig M.program c
+FitsConfig M E gl wr c ws = WorldFits M gl c.world × FitsTop M E gl c.world wr c.frames ws × KnownConfig M.program c
 
 -- what a wrapper's frame is but for its operands
 pub record Wrap : Type 0 where

@@ -20,8 +20,8 @@ use Rattle.wasm_syntax.specs.Tree.{BrTable, Return, Nodes, stop, basic, jump, bl
 use Rattle.wasm_syntax.specs.Module.{type_at, same_functype, option_then}
 use Rattle.wasm_syntax.specs.Run.{table_min, start_table}
 use Rattle.rewrite_bodies.specs.Numbering.{flag_of}
-use Rattle.rewrite_bodies.specs.calls.Slots.{Place, Ctx}
-use Rattle.rewrite_bodies.specs.calls.Pieces.{const, i32, fetch}
+use Rattle.rewrite_bodies.specs.calls.Slots.{Place, Ctx, length_at, measured}
+use Rattle.rewrite_bodies.specs.calls.Pieces.{get, set, const, i32, fetch}
 
 -- the least signed number of a type, and -1
 abbrev pub least : ValType → Value
@@ -57,9 +57,6 @@ memory_length k =
 abbrev pub length_of : Module → ℕ
 length_of m = suc (flag_of m)
 
-abbrev pub get_length : Module → Nodes → Nodes
-get_length m k = basic 0 (GlobalGet (length_of m)) k
-
 -- it is set by the length of the memory, where there is one: behind what may change that
 abbrev pub set_length : Module → Nodes → Nodes
 set_length m k = memory_length (basic 0 (GlobalSet (length_of m)) k)
@@ -71,9 +68,25 @@ renewed (l ∷ ls) m k = set_length m k
 abbrev pub renew : Module → Nodes → Nodes
 renew m k = renewed m.memories m k
 
+-- A function that has a guard has the same in a local besides, which is read in less time. It is read from the global where the function begins,
+-- and behind each instruction that may change the global.
+abbrev pub measure : Bool → Ctx → Nodes → Nodes
+measure false C k = k
+measure true C k = basic 0 (GlobalGet (length_of C.source)) (set C (length_at C) k)
+
+abbrev pub get_length : Ctx → Nodes → Nodes
+get_length C k = get C (length_at C) k
+
+-- both are set
+abbrev pub set_both : Ctx → Nodes → Nodes
+set_both C k = set_length C.source (measure (measured C) C k)
+
+abbrev pub renew_both : Ctx → Nodes → Nodes
+renew_both C k = renew C.source (measure (measured C) C k)
+
 -- the i64 on top is past the end of the memory
-abbrev pub past_end : Module → Nodes → Nodes
-past_end m k = get_length m (const (values.I64 4) (basic 0 (Binary I64 Add) (basic 0 (Compare I64 GtU) k)))
+abbrev pub past_end : Ctx → Nodes → Nodes
+past_end C k = get_length C (const (values.I64 4) (basic 0 (Binary I64 Add) (basic 0 (Compare I64 GtU) k)))
 
 -- what so many bytes are more than four is taken from the i64 on top
 abbrev pub beyond_word : Bool → ℕ → Nodes → Nodes
@@ -82,16 +95,16 @@ beyond_word false n k = const (values.I64 (less_word n)) (basic 0 (Binary I64 Su
 
 -- The address on top is past the place from which so many bytes, offset included, end with the memory. As a signed number that place may be
 -- below 0. It does not hang on the address, so that an engine can find it outside of a loop.
-abbrev pub out_test : Module → ℕ → Nodes → Nodes
-out_test m n k = basic 0 (Convert ExtendU) (get_length m (beyond_word (n == 4) n (basic 0 (Compare I64 GtS) k)))
+abbrev pub out_test : Ctx → ℕ → Nodes → Nodes
+out_test C n k = basic 0 (Convert ExtendU) (get_length C (beyond_word (n == 4) n (basic 0 (Compare I64 GtS) k)))
 
 -- an access of n bytes, offset included, from the address at height h passes the end
 abbrev pub guard_memory : Ctx → Place → ℕ → ℕ → Nodes → Nodes
-guard_memory C a h n k = fetch C a h (out_test C.source n k)
+guard_memory C a h n k = fetch C a h (out_test C n k)
 
 -- so many bytes from an address on, given by two operands with their heights, pass the end of the memory
 abbrev pub range_test : Ctx → Place → ℕ → Place → ℕ → Nodes → Nodes
-range_test C a h n hn k = fetch C a h (basic 0 (Convert ExtendU) (fetch C n hn (basic 0 (Convert ExtendU) (basic 0 (Binary I64 Add) (past_end C.source k)))))
+range_test C a h n hn k = fetch C a h (basic 0 (Convert ExtendU) (fetch C n hn (basic 0 (Convert ExtendU) (basic 0 (Binary I64 Add) (past_end C k)))))
 
 -- the length, where from, and where to, which is at height h
 abbrev pub guard_copy : Ctx → Place → Place → Place → ℕ → Nodes → Nodes

@@ -67,7 +67,7 @@ live_weight C es (choose at t a else_at b end rest) =
 
 -- the numbers of locals, and of the collector's imports, take at most four bytes
 pub record FewNumbers (C : Ctx) : Type 0 where
-  pub locals : length C.locals + (2 * C.slots + 4) ≤ 2 ^ 28
+  pub locals : length C.locals + (2 * C.slots + 5) ≤ 2 ^ 28
   pub imports : import_count C.source + 3 ≤ 2 ^ 28
 
 -- each type gives at most one result, as in each valid module

@@ -13,9 +13,9 @@ use Rattle.wasm_syntax.specs.Effect.{takes}
 use Rattle.wasm_syntax.specs.Run.{table_min}
 use Rattle.wasm_syntax.specs.Machine.{result_of, zero_of}
 use Rattle.rewrite_bodies.specs.Numbering.{import_count, mapped, value_import, frame_import, flag_of, place_in, doubles}
-use Rattle.rewrite_bodies.specs.calls.Slots.{Place, Spilled, place_type, Ctx, kind_at, offset_at, less, grown, under, result_place, after_plain, Landing, local_written}
+use Rattle.rewrite_bodies.specs.calls.Slots.{Place, Spilled, place_type, Ctx, kind_at, offset_at, measured, less, grown, under, result_place, after_plain, Landing, local_written}
 use Rattle.rewrite_bodies.specs.calls.Pieces.{get, set, const, i32, call, if_any, fetch, load, keep, store, reload, spill, drops}
-use Rattle.rewrite_bodies.specs.calls.Guards.{set_length, renew, guard, kind}
+use Rattle.rewrite_bodies.specs.calls.Guards.{measure, set_both, renew_both, guard, kind}
 use Rattle.rewrite_bodies.specs.calls.Facts.{needs}
 use Rattle.rewrite_bodies.specs.calls.Landings.{number_of, number_in, part_of, landing_of, landing_behind, with_landings}
 
@@ -103,7 +103,7 @@ grows i = false
 
 abbrev pub lengthened : Bool → Ctx → Nodes → Nodes
 lengthened false C k = k
-lengthened true C k = set_length C.source k
+lengthened true C k = set_both C k
 
 -- in front of code to which the topmost operand passes, or not
 abbrev pub plain : Ctx → ℕ → List Place → ℕ → Basic → Bool → (List Place → Nodes) → Nodes
@@ -118,11 +118,11 @@ abbrev pub with_result : Ctx → Option ValType → List Place → Bool → (Lis
 with_result C r es passing go = keep passing C (option_map Spilled r) es (go (grown r es))
 
 abbrev pub after_call : Ctx → ℕ → Option ValType → List Place → ℕ → Bool → (List Place → Nodes) → Nodes
-after_call C d r es o passing go = with_result C r es passing (λ es'. test_flag C d es o (go es'))
+after_call C d r es o passing go = with_result C r es passing (λ es'. test_flag C d es o (measure (measured C) C (go es')))
 
--- a call of an import cannot come back with the flag up, but its host may have made the memory longer
+-- the function may have made the memory longer; a call of an import cannot come back with the flag up, but its host may have made it longer
 abbrev pub after_direct : Bool → Ctx → ℕ → Option ValType → List Place → ℕ → Bool → (List Place → Nodes) → Nodes
-after_direct true C d r es o passing go = renew C.source (with_result C r es passing go)
+after_direct true C d r es o passing go = with_result C r es passing (λ es'. renew_both C (go es'))
 after_direct false C d r es o passing go = after_call C d r es o passing go
 
 abbrev pub call_code : Ctx → ℕ → List Place → ℕ → ℕ → Option FuncType → Bool → (List Place → Nodes) → Nodes
@@ -159,7 +159,7 @@ indirect_code C d (i ∷ es) o t (Some type) go =
     let r = result_of type in
     fetch C i (length es) (call (helper_of C t) (set C (kind_at C) (get C (kind_at C) (basic 0 (Eqz I32)
     (if_any (load C (suc n) (i ∷ es) (past_shown (doubles C.source) C (jump 0 (CallIndirect t) (store C r left stop))))
-    (test_both C d left o (hand_top C (suc n) (i ∷ es) stop) (drops (suc n) (renew C.source (reload C r left (go (grown r left)))))))))))
+    (test_both C d left o (hand_top C (suc n) (i ∷ es) stop) (drops (suc n) (renew_both C (reload C r left (go (grown r left)))))))))))
 
 abbrev pub control : Ctx → ℕ → List Place → ℕ → Jump → Bool → (List Place → Nodes) → Nodes
 control C d es o Unreachable passing go = const (i32 1) (tested C d es o (const (i32 1)) (jump 0 Unreachable stop))
@@ -223,8 +223,12 @@ nested C (x ∷ xs) inner = nested C xs (block 0 x.carried inner 0 (landing_code
 -- ---- the body
 
 -- the body stands in one block, that in those of its landings, and these in the exit block
+abbrev pub blocks : Ctx → Nodes → Nodes
+blocks C nodes = block 0 None (nested C C.landings (block 0 C.result (rewrite C 1 [] nodes) 0 (jump 0 Return stop))) 0 (exit_code C)
+
+-- in front of them the length of the memory is read
 abbrev pub laid : Ctx → Nodes → Nodes
-laid C nodes = block 0 None (nested C C.landings (block 0 C.result (rewrite C 1 [] nodes) 0 (jump 0 Return stop))) 0 (exit_code C)
+laid C nodes = measure (measured C) C (blocks C nodes)
 
 abbrev pub body : Ctx → Nodes → Nodes
 body C nodes = laid (with_landings C nodes) nodes

@@ -1,6 +1,6 @@
 -- What is known of operands in a rewritten function, whose stack has the original's operands: each operand has a height and a type, and so a slot
 -- among the added locals, in which its value is besides, unless a constant instruction pushed it or it is a copy of a local.
-use Rattle.std.specs.Prelude.{ℕ, zero, suc, ◌+◌, ◌*◌, ◌==◌, max, List, [], ◌∷◌, ◌++◌, length, map, replicate, slice_get, Option, Some, None, option_map, Bool, true, if◌then◌else◌}
+use Rattle.std.specs.Prelude.{ℕ, zero, suc, ◌+◌, ◌*◌, ◌==◌, max, List, [], ◌∷◌, ◌++◌, length, map, replicate, slice_get, Option, Some, None, option_map, Bool, true, false, if◌then◌else◌}
 use Rattle.wasm_syntax.specs.declared.value.ValType.{ValType}
 use Rattle.wasm_syntax.specs.declared.value.ValType.TheVariants.{I32, I64}
 use Rattle.wasm_syntax.specs.declared.value.Value.{Value}
@@ -52,7 +52,7 @@ pub record Ctx : Type 0 where
   pub exposed : List ℕ
 
 -- the added locals, of which all of a type stand together: a slot of type i32 at each height and for a result, the kind and the offset of a
--- trap, and a slot of type i64 at each height and for a result
+-- trap, a slot of type i64 at each height and for a result, and the length of the memory
 abbrev pub slot : ℕ → ValType → ℕ → ℕ
 slot slots I32 h = h
 slot slots I64 h = slots + 3 + h
@@ -67,16 +67,19 @@ kind_at C = C.slots + 1
 abbrev pub offset_at : Ctx → ℕ
 offset_at C = C.slots + 2
 
+abbrev pub length_at : Ctx → ℕ
+length_at C = 2 * C.slots + 4
+
 -- the types of the added locals, for so many heights
 abbrev pub added : ℕ → List ValType
-added n = replicate (n + 3) I32 ++ replicate (n + 1) I64
+added n = replicate (n + 3) I32 ++ replicate (n + 2) I64
 
 -- the same, as groups of locals
 abbrev pub group : ℕ → ValType → LocalGroup
 group n t = record { count = n; vtype = t }
 
 abbrev pub groups : ℕ → List LocalGroup
-groups n = group (n + 3) I32 ∷ group (n + 1) I64 ∷ []
+groups n = group (n + 3) I32 ∷ group (n + 2) I64 ∷ []
 
 -- ---- the places behind an instruction
 
@@ -183,6 +186,14 @@ peak C es (choose o t a else_at b end rest) =
     let left = under (less 1 es) in max (length es) (max (peak C left a) (max (peak C left b) (peak C (grown t left) rest)))
 
 -- ---- functions of a program
+
+-- a function that has a guard keeps the length of the memory in its local
+abbrev pub is_any : List ℕ → Bool
+is_any [] = false
+is_any (o ∷ os) = true
+
+abbrev pub measured : Ctx → Bool
+measured C = is_any C.exposed
 
 -- what is fixed in function f of a program, before its landings are known
 abbrev pub ctx_of : Program → ℕ → Body → FuncType → ℕ → Ctx

@@ -75,7 +75,7 @@ verdict (suc k) = 1
 -- On the operands that these places stand for, it leaves 1 where the instruction traps on them, and 0 where it does not.
 pub record IsGuard (C : Ctx) (i : Basic) (places : List Place) (piece : Nodes → Nodes) : Type 0 where
   pub tells : (M : Engine) (A : Around) (locals added_ : List Value) (w : World) (calls : List CollectorCall) (operands taken below : List Value)
-      → length C.locals ≡ length locals → MemoryFits w.memory → TellsLength C w w.memory → SmallOffset i → Holds C locals added_ [] operands places → cut (takes i) operands ≡ parts taken below → effect i w locals taken ≢ unfit
+      → length C.locals ≡ length locals → MemoryFits w.memory → TellsLength C added_ w.memory → SmallOffset i → Holds C locals added_ [] operands places → cut (takes i) operands ≡ parts taken below → effect i w locals taken ≢ unfit
       → Leaves M A (locals ++ added_) w calls (verdict (kind_of (effect i w locals taken))) piece
   pub typed : (after : List ValType) → AllOwn C places → BasicTypes (original C []) i (map place_type places) after → LeavesI32 C piece
   pub short : IsShort C piece
@@ -83,7 +83,7 @@ pub record IsGuard (C : Ctx) (i : Basic) (places : List Place) (piece : Nodes �
 -- Where the instruction traps on them, it leaves the kind.
 pub record IsKind (C : Ctx) (i : Basic) (places : List Place) (piece : Nodes → Nodes) : Type 0 where
   pub tells : (M : Engine) (A : Around) (locals added_ : List Value) (w : World) (calls : List CollectorCall) (operands taken below : List Value)
-      → length C.locals ≡ length locals → MemoryFits w.memory → TellsLength C w w.memory → SmallOffset i → Holds C locals added_ [] operands places → cut (takes i) operands ≡ parts taken below → effect i w locals taken ≢ unfit
+      → length C.locals ≡ length locals → MemoryFits w.memory → TellsLength C added_ w.memory → SmallOffset i → Holds C locals added_ [] operands places → cut (takes i) operands ≡ parts taken below → effect i w locals taken ≢ unfit
       → (j : ℕ) → kind_of (effect i w locals taken) ≡ suc j → Leaves M A (locals ++ added_) w calls (suc j) piece
   pub typed : (after : List ValType) → AllOwn C places → BasicTypes (original C []) i (map place_type places) after → LeavesI32 C piece
   pub short : IsShort C piece

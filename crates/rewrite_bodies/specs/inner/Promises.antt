@@ -32,14 +32,14 @@ verdict (suc k) = 1
 abbrev pub GuardTells : Engine → Basic → Type 0
 GuardTells M i =
     (C : Ctx) (locals added_ : List Value) (X : Shell) (behind : Nodes) (there here : World) (calls : List CollectorCall) (js es : List Place) (ops vs below under : List Value) →
-    length C.locals ≡ length locals → TellsLength C there here.memory → MemoryFits here.memory → SmallOffset i → can_trap i ≡ true →
+    length C.locals ≡ length locals → TellsLength C added_ here.memory → MemoryFits here.memory → SmallOffset i → can_trap i ≡ true →
     Holds C locals added_ js ops es → cut (takes i) ops ≡ parts vs below → effect i here locals vs ≢ unfit →
     To M 1 21 (st X (locals ++ added_) under (guard C i (es ++ js) behind) there calls) (st X (locals ++ added_) (values.I32 (verdict (kind_of (effect i here locals vs))) ∷ under) behind there calls)
     × ((k : ℕ) → kind_of (effect i here locals vs) ≡ suc k → To M 1 5 (st X (locals ++ added_) under (kind C i (es ++ js) behind) there calls) (st X (locals ++ added_) (values.I32 (suc k) ∷ under) behind there calls))
 
 -- what a step comes to, facts aside
 abbrev pub Comes : Engine → Engine → ℕ → List ValType → Wrap → Config → Stepped → Type 0
-Comes M M' E gl W t (next c) = (ws : List Wit) × (WorldFits M gl c.world × FitsTop M E gl W.result c.frames ws) × To M' 1 E t (image M W c ws)
+Comes M M' E gl W t (next c) = (ws : List Wit) × (WorldFits M gl c.world × FitsTop M E gl c.world W.result c.frames ws) × To M' 1 E t (image M W c ws)
 Comes M M' E gl W t (ends g vs co) = After M M' E gl W t (ends g vs co)
 Comes M M' E gl W t (traps k c) = After M M' E gl W t (traps k c)
 Comes M M' E gl W t (no_reply call c) = After M M' E gl W t (no_reply call c)

@@ -13,4 +13,4 @@ context m locals slots index gives landings exposed =
 
 -- all locals have numbers of 32 bits, those added too
 abbrev pub FewLocals : List ValType → ℕ → Type 0
-FewLocals locals slots = length locals + 2 * slots + 4 < 2 ^ 32
+FewLocals locals slots = length locals + 2 * slots + 5 < 2 ^ 32

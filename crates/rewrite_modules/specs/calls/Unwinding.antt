@@ -15,7 +15,7 @@ use Rattle.wasm_syntax.specs.Host.{World}
 use Rattle.wasm_syntax.specs.Machine.{Frame, Config, config, Engine, traps, entered, result_of, deliver, step}
 use Rattle.wasm_syntax.specs.Run.{engine, start_world, cause_of_segments}
 use Rattle.rewrite_bodies.specs.Numbering.{wrapped, wrapper_base, global_types}
-use Rattle.rewrite_bodies.specs.calls.Agreement.{Wit, WorldFits, FitsFrame, FitsFrames, FitsConfig, Wrap, w_frame, t_frames, flagged, image, zero_vs, last_result}
+use Rattle.rewrite_bodies.specs.calls.Agreement.{Wit, WorldFits, FitsFrame, FitsFrames, FitsConfig, Wrap, w_frame, t_frames, flagged, image, zero_vs, last_result, Waits}
 use Rattle.rewrite_bodies.specs.calls.Standing.{After}
 use Rattle.rewrite_bodies.specs.calls.Steps.{Gets, To}
 use Rattle.rewrite_bodies.specs.calls.Telling.{tell_locals, tell_frame, tell_outer}
@@ -60,7 +60,7 @@ module _ (p : Program) (n d : ℕ) where
     -- over their values, in at most n steps each, and the wrapper's frame is reached with the flag up, memory and globals as they were.
     pub follows : (W : Wrap) (c : Config) (ws : List Wit) → FitsConfig M n gl W.result c ws → length c.frames ≤ d → After M M' n gl W (image M W c ws) (step M c)
     -- where a callee has returned with the flag up, one frame hands over its values in at most n steps, and returns with the flag up
-    pub one_frame : (W : Wrap) (F : Frame) (Fs : List Frame) (w : Wit) (ws : List Wit) (g : World) (co : List CollectorCall) (t : Config) (q : ℕ) (r : Option ValType) → FitsFrame M n gl (Some r) F w → FitsFrames M n gl W.result F.result Fs ws → WorldFits M gl g → Returned W t q r (F ∷ Fs) (w ∷ ws) g co → Returned W t (q + n) F.result Fs ws g (tell_frame 0 F.call F co)
+    pub one_frame : (W : Wrap) (F : Frame) (Fs : List Frame) (w : Wit) (ws : List Wit) (g : World) (co : List CollectorCall) (t : Config) (q : ℕ) (r : Option ValType) → FitsFrame M n gl (Waits r) F w → FitsFrames M n gl W.result F.result Fs ws → WorldFits M gl g → Returned W t q r (F ∷ Fs) (w ∷ ws) g co → Returned W t (q + n) F.result Fs ws g (tell_frame 0 F.call F co)
     -- and all do
     pub all_frames : (W : Wrap) (Fs : List Frame) (ws : List Wit) (g : World) (co : List CollectorCall) (t : Config) (q : ℕ) (r : Option ValType) → FitsFrames M n gl W.result r Fs ws → WorldFits M gl g → Returned W t q r Fs ws g co → To M' 0 (q + length Fs * n) t (config (w_frame W (zero_vs (last_result r Fs) ++ []) ∷ []) (flagged M g (values.I32 1)) (tell_outer Fs co))
     -- the wrapper hands over the globals and ends in a trap with the flag down, in at most n steps

@@ -2,7 +2,8 @@
 use Rattle.std.specs.Prelude.{◌≡◌, ◌≤◌, ℕ, List, [], ◌∷◌, ◌++◌, length, slice_get, Option, Some, None}
 use Rattle.wasm_syntax.specs.declared.value.ValType.{ValType}
 use Rattle.wasm_syntax.specs.Tree.{Nodes, stop, block}
-use Rattle.rewrite_bodies.specs.calls.Slots.{Landing, Ctx}
+use Rattle.rewrite_bodies.specs.calls.Slots.{Landing, Ctx, measured}
+use Rattle.rewrite_bodies.specs.calls.Guards.{measure}
 use Rattle.rewrite_bodies.specs.calls.Rewrite.{nested, landing_code, exit_code}
 use Rattle.rewrite_code.specs.calls.Writing.{Written, Behind, ends, alternates, goes}
 
@@ -43,4 +44,4 @@ LowLandings C = (n : ℕ) (x : Landing) → slice_get C.landings n ≡ Some x �
 abbrev pub OpensBody : Ctx → Written → Written → Type 0
 OpensBody C old new =
     (nodes k : Nodes) (behind : List Behind)
-    → goes old (block 0 None (nested C C.landings (block 0 C.result nodes 0 k)) 0 (exit_code C)) behind ≡ goes new nodes (ends k ∷ behind_landings C C.landings (ends (exit_code C) ∷ behind))
+    → goes old (measure (measured C) C (block 0 None (nested C C.landings (block 0 C.result nodes 0 k)) 0 (exit_code C))) behind ≡ goes new nodes (ends k ∷ behind_landings C C.landings (ends (exit_code C) ∷ behind))

@@ -5,4 +5,4 @@ use Rattle.unwind_rewrite.proofs.calls.after_call.Goals as goal
 
 pub returns : goal.returns
 returns c =
-    when_ok (came_back c.args.context.now c.args.site.now.passing c.args.site.now.labels c.args.gives (less c.args.count c.args.site.now.places.now) c.args.site.now.offset c.in_ok-keep_left.ensures) c.test_flag.result c.test_flag.ensures
+    when_ok (came_back c.args.context.now c.args.site.now.passing c.args.site.now.labels c.args.gives (less c.args.count c.args.site.now.places.now) c.args.site.now.offset c.in_ok-keep_left.ensures c.in_ok-test_flag.ensures) c.measure.result c.measure.ensures
