@@ -1,27 +1,34 @@
--- What is known of arrays, where it is known of one more.
+-- What is known of arrays and structures, where it is known of one more.
 use Rattle.std.proofs.Common.{◌≡◌, ℕ, Bool, true, false, cond, eqb, Some, Option, refl, sym, ap, subst, ◌∙◌}
-use Rattle.std.specs.Prelude.{IfSome, List}
+use Rattle.std.specs.Prelude.{IfSome, List, filter}
 use Rattle.std.specs.Ordering.{nat_cmp, is_eq}
 use Rattle.std.specs.BTreeMap.{get}
 use Rattle.std.proofs.lemmas.Bool.{eqb-true}
 use Rattle.pm_text.proofs.Lists.{is_eq_at}
 use Rattle.dwarf_info.specs.declared.entry.UnitAnswer.{UnitAnswer}
 use Rattle.dwarf_info.specs.declared.entry.Entry.{Entry}
-use Rattle.dwarf_entries.specs.Standing.{Standing, standing_at}
+use Rattle.dwarf_info.specs.declared.entry.Unit.{Unit as UnitTree}
+use Rattle.dwarf_entries.specs.Standing.{Standing, standing_at, standing_in, entries_inside}
 use Rattle.dwarf_types.specs.Counts.{counts}
 use Rattle.dwarf_types.specs.calls.Subranges.{Subranges, AreOf}
 use Rattle.dwarf_types.specs.calls.Known.{AreKnown}
+use Rattle.dwarf_types.specs.calls.Contents.{stands_in, contents, AreContentsOf, AreContents}
 use Rattle.dwarf_types.specs.declared.arrays.Arrays.{Arrays}
+use Rattle.dwarf_types.specs.calls.Numbers.{AreFirst, AreFirstOf}
+use Rattle.dwarf_types.specs.declared.enumerators.Enumerators.{Enumerators}
+use Rattle.dwarf_types.specs.declared.structures.Structures.{Structures}
 
-pub rows_kept : (units : List UnitAnswer) (before after : Arrays) (at : ℕ) (rows : Subranges)
-    → ((q : ℕ) → get nat_cmp after.known q ≡ cond (is_eq (nat_cmp at q)) (Some rows) (get nat_cmp before.known q)) → AreKnown units before
-    → AreOf (standing_at units at) rows → AreKnown units after
-rows_kept units before after at rows updates are is q =
-    subst (λ (o : Option Subranges). IfSome o (AreOf (standing_at units q))) (sym (updates q ∙ ap (λ (b : Bool). cond b (Some rows) (get nat_cmp before.known q)) (is_eq_at at q))) (by (eqb at q) refl)
+-- of one more offset
+pub one_kept : {A : Type 0} (P : ℕ → A → Type 0) (before after : ℕ → Option A) (at : ℕ) (x : A) → ((q : ℕ) → after q ≡ cond (is_eq (nat_cmp at q)) (Some x) (before q))
+    → ((q : ℕ) → IfSome (before q) (P q)) → P at x → (q : ℕ) → IfSome (after q) (P q)
+one_kept {A} P before after at x updates are is q =
+    subst (λ (o : Option A). IfSome o (P q)) (sym (updates q ∙ ap (λ (b : Bool). cond b (Some x) (before q)) (is_eq_at at q))) (by (eqb at q) refl)
   where
-    by : (b : Bool) → eqb at q ≡ b → IfSome (cond b (Some rows) (get nat_cmp before.known q)) (AreOf (standing_at units q))
-    by true tie = subst (λ (n : ℕ). AreOf (standing_at units n) rows) (eqb-true at q tie) is
+    by : (b : Bool) → eqb at q ≡ b → IfSome (cond b (Some x) (before q)) (P q)
+    by true tie = subst (λ (n : ℕ). P n x) (eqb-true at q tie) is
     by false tie = are q
+
+-- ---- arrays
 
 -- those of an entry that was found at an offset
 pub array_kept : (units : List UnitAnswer) (before after : Arrays) (at : ℕ) (s : Standing) (rows : Subranges)
@@ -40,3 +47,46 @@ rows_got units arrays at o is are = subst (λ (x : Option Subranges). IfSome x (
 
 pub rows_here : (o : Option Subranges) (rows : Subranges) (s : Standing) → o ≡ Some rows → IfSome o (AreOf (Some s)) → rows.counts ≡ counts s
 rows_here o rows s is are = subst (λ (x : Option Subranges). IfSome x (AreOf (Some s))) is are
+
+-- ---- what stands in structures
+
+pub contents_found : (s : Standing) (u : UnitTree) (e : Entry) (es : List Entry) (xs : List Standing) → u ≡ s.unit → e ≡ s.entry → es ≡ entries_inside s → xs ≡ filter (stands_in e.depth) (standing_in u es)
+    → xs ≡ contents s
+contents_found s u e es xs unit is inside are =
+    are ∙ ap (λ (x : Entry). filter (stands_in x.depth) (standing_in u es)) is ∙ ap (λ (x : UnitTree). filter (stands_in s.entry.depth) (standing_in x es)) unit
+    ∙ ap (λ (x : List Entry). filter (stands_in s.entry.depth) (standing_in s.unit x)) inside
+
+pub contents_kept : (units : List UnitAnswer) (before after : Structures) (at : ℕ) (s : Standing) (xs : List Standing)
+    → ((us : List UnitAnswer) → AreContents us before → AreContentsOf (standing_at us at) xs → AreContents us after) → AreContents units before → Some s ≡ standing_at units at → xs ≡ contents s
+    → AreContents units after
+contents_kept units before after at s xs kept are found is = kept units are (subst (λ (o : Option Standing). AreContentsOf o xs) found is)
+
+pub contents_known : (units : List UnitAnswer) (structures : Option Structures) (o : Option (List Standing)) (s : Standing) (e : Entry) → e ≡ s.entry
+    → ((us : List UnitAnswer) → IfSome structures (AreContents us) → IfSome o (AreContentsOf (standing_at us e.at)))
+    → IfSome structures (AreContents units) → standing_at units s.entry.at ≡ Some s → IfSome o (AreContentsOf (Some s))
+contents_known units structures o s e is got are found =
+    subst (λ (x : Option Standing). IfSome o (AreContentsOf x)) (ap (λ (x : Entry). standing_at units x.at) is ∙ found) (got units are)
+
+pub contents_got : (units : List UnitAnswer) (structures : Structures) (at : ℕ) (o : Option (List Standing)) → o ≡ get nat_cmp structures.members at → AreContents units structures
+    → IfSome o (AreContentsOf (standing_at units at))
+contents_got units structures at o is are = subst (λ (x : Option (List Standing)). IfSome x (AreContentsOf (standing_at units at))) (sym is) (are.members at)
+
+-- ---- enumerators
+
+pub numbers_kept : (units : List UnitAnswer) (before after : Structures) (at : ℕ) (s : Standing) (e : Enumerators)
+    → ((us : List UnitAnswer) → AreContents us before → AreFirstOf (standing_at us at) e → AreContents us after) → AreContents units before → Some s ≡ standing_at units at → AreFirst s e
+    → AreContents units after
+numbers_kept units before after at s e kept are found is = kept units are (subst (λ (o : Option Standing). AreFirstOf o e) found is)
+
+pub numbers_known : (units : List UnitAnswer) (structures : Option Structures) (o : Option Enumerators) (s : Standing) (e : Entry) → e ≡ s.entry
+    → ((us : List UnitAnswer) → IfSome structures (AreContents us) → IfSome o (AreFirstOf (standing_at us e.at)))
+    → IfSome structures (AreContents units) → standing_at units s.entry.at ≡ Some s → IfSome o (AreFirstOf (Some s))
+numbers_known units structures o s e is got are found =
+    subst (λ (x : Option Standing). IfSome o (AreFirstOf x)) (ap (λ (x : Entry). standing_at units x.at) is ∙ found) (got units are)
+
+pub numbers_got : (units : List UnitAnswer) (structures : Structures) (at : ℕ) (o : Option Enumerators) → o ≡ get nat_cmp structures.numbers at → AreContents units structures
+    → IfSome o (AreFirstOf (standing_at units at))
+numbers_got units structures at o is are = subst (λ (x : Option Enumerators). IfSome x (AreFirstOf (standing_at units at))) (sym is) (are.numbers at)
+
+pub first_here : (o : Option Enumerators) (e : Enumerators) (s : Standing) → o ≡ Some e → IfSome o (AreFirstOf (Some s)) → AreFirst s e
+first_here o e s is are = subst (λ (x : Option Enumerators). IfSome x (AreFirstOf (Some s))) is are

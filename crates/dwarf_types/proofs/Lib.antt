@@ -3,3 +3,4 @@ pub mod ArraySizes
 pub mod SizeLaws
 pub mod OwnLaws
 pub mod KeptLaws
+pub mod FirstLaws

@@ -3,6 +3,7 @@ pub mod Types
 pub mod Kinds
 pub mod Counts
 pub mod Products
+pub mod Structures
 pub mod Sizes
 pub mod calls
 pub mod inner

@@ -9,6 +9,7 @@ ghost use Rattle.dwarf_types.specs.calls.Subranges.{AreOf};
 use crate::array_rows::ArrayRows;
 use crate::behind::{Typed, type_of};
 use crate::class::{Class, class_of};
+use crate::shallow::is_shallow;
 use crate::size::type_size;
 use crate::typed_units::TypedUnits;
 use causes::NoMemory;
@@ -32,20 +33,6 @@ enum ElementSize {
     Waiting,
     Unknown,
     Known(u64),
-}
-
-/// Whether nothing stands in the entries that are in an array. The entries of all such arrays are
-/// together no more than all entries.
-fn is_flat(depth: u32, behind: &[Entry<'_>]) -> bool {
-    for entry in behind {
-        if entry.depth <= depth {
-            return true;
-        }
-        if entry.depth - depth > 1 {
-            return false;
-        }
-    }
-    true
 }
 
 /// Whether the size of a type is told without reading the subranges of another array.
@@ -102,9 +89,9 @@ fn keep(arrays: &mut Arrays, at: u32, rows: ArrayRows) -> Result<(), NoMemory>
     Ok(())
 }
 
-/// Whether an entry is that of a flat array that is not known yet.
+/// Whether an entry is that of an array that is not known yet, in which not too many levels stand.
 fn is_wanted(arrays: &Arrays, entry: &Entry<'_>, behind: &[Entry<'_>]) -> bool {
-    entry.tag == ARRAY && !arrays.known.contains_key(&entry.at) && is_flat(entry.depth, behind)
+    entry.tag == ARRAY && !arrays.known.contains_key(&entry.at) && is_shallow(entry, behind)
 }
 
 /// Adds what is known of the array at an offset, unless the size of its elements waits for what is

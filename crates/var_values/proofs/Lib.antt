@@ -10,3 +10,4 @@ pub mod NearLaws
 pub mod MemberLaws
 pub mod ScalarLaws
 pub mod VariantLaws
+pub mod EnumeratorLaws

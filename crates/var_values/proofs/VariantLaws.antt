@@ -1,24 +1,28 @@
 -- Variants: the numbers in lists, and what stands in a structure.
-use Rattle.std.proofs.Common.{◌≡◌, ℕ, zero, suc, ◌-◌, ◌*◌, ◌<◌, ◌≤◌, Bool, true, false, List, [], ◌∷◌, ◌++◌, length, Ok, Err, refl, sym, ap, ◌∙◌, append_assoc, arith}
-use Rattle.std.specs.Prelude.{◌&&◌, ◌||◌, nat_le, ℤ}
+use Rattle.std.proofs.Common.{◌≡◌, ℕ, zero, suc, ◌-◌, ◌*◌, ◌<◌, ◌≤◌, Bool, true, false, List, [], ◌∷◌, ◌++◌, length, Ok, Err, refl, sym, ap, ◌∙◌, append_assoc, cond, arith}
+use Rattle.std.specs.Prelude.{◌&&◌, ◌||◌, nat_le, ℤ, filter, if◌then◌else◌}
 use Rattle.std.specs.List.{flat_map}
 use Rattle.std.proofs.lemmas.List.{append-nil}
 use Rattle.std.proofs.lemmas.Bool.{and_parts}
 use Rattle.std.proofs.lemmas.Bool.Decides.{nat_tests}
 use Rattle.dwarf_info.specs.declared.entry.Entry.{Entry}
 use Rattle.dwarf_info.specs.declared.entry.UnitAnswer.{UnitAnswer}
-use Rattle.dwarf_entries.specs.Standing.{Standing, standing_in, inside}
+use Rattle.dwarf_entries.specs.Origins.{longest_chain}
+use Rattle.dwarf_entries.specs.Standing.{Standing, standing_in, inside, is_child}
+use Rattle.dwarf_entries.specs.Tags.{tag_member}
+use Rattle.dwarf_types.specs.Structures.{tag_variant_part}
+use Rattle.dwarf_types.specs.calls.Contents.{stands_in, contents}
 use Rattle.dwarf_types.specs.Types.{class_at}
 use Rattle.wasm_bytes.specs.Place.{Place as Where}
 use Rattle.var_values.specs.declared.mark.Mark.TheVariants.{TypeTooDeep}
 use Rattle.var_values.specs.declared.item.Item.{Item}
-use Rattle.var_values.specs.declared.item.Item.TheVariants.{Unknown}
+use Rattle.var_values.specs.declared.item.Item.TheVariants.{Member, Unknown}
 use Rattle.var_values.specs.Bytes.{Recorded}
 use Rattle.var_values.specs.Places.{Place}
 use Rattle.var_values.specs.Scalars.{bits_of}
 use Rattle.var_values.specs.Suits.{suits}
 use Rattle.var_values.specs.Lists.{range_item, is_in, in_or, is_listed}
-use Rattle.var_values.specs.Variants.{is_discrete, child_items, items}
+use Rattle.var_values.specs.Variants.{is_discrete, variant_of, variant_items, child_items, items}
 use Rattle.var_values.proofs.ScalarLaws.{suits_narrow}
 
 -- ---- discriminants
@@ -85,3 +89,35 @@ pub all_pushed : (units : List UnitAnswer) (m : Recorded) (p : Place) (n : ℕ) 
     → new ≡ old ++ items units m p n s
 all_pushed units m p n s old new [] some none is = sym (ap (λ (t : List Item). old ++ t) (more_items units m p n s some) ∙ is ∙ append-nil new)
 all_pushed units m p n s old new (e ∷ es) some none is = absurd (omega arith)
+
+-- ---- where it is known which children tell of a structure
+
+filtered : {A B : Type 0} (f : A → List B) (p : A → Bool) (xs : List A) → ((x : A) → p x ≡ false → f x ≡ []) → flat_map f (filter p xs) ≡ flat_map f xs
+filtered f p [] none = refl
+filtered f p (x ∷ xs) none = by_test f (filter p xs) xs x (p x) (filtered f p xs none) (none x)
+  where
+    by_test : {A B : Type 0} (f : A → List B) (picked xs : List A) (x : A) (b : Bool) → flat_map f picked ≡ flat_map f xs → (b ≡ false → f x ≡ []) → flat_map f (cond b (x ∷ picked) picked) ≡ flat_map f (x ∷ xs)
+    by_test f picked xs x true rest none = ap (λ (ys : List _). f x ++ ys) rest
+    by_test f picked xs x false rest none = rest ∙ ap (λ (ys : List _). ys ++ flat_map f xs) (sym (none refl))
+
+other_by : {A : Type 0} (b c : Bool) (x : A) (xs : List A) → (b || c) ≡ false → (if b then x ∷ [] else (if c then xs else [])) ≡ []
+other_by true c x xs e = absurd (let no : true ≡ false = e in cc)
+other_by false true x xs e = absurd (let no : true ≡ false = e in cc)
+other_by false false x xs e = refl
+
+-- all others tell nothing
+other_child : (units : List UnitAnswer) (m : Recorded) (p : Place) (content : Standing → List Item) (depth : ℕ) (x : Standing) → stands_in depth x ≡ false → child_items units m p content depth x ≡ []
+other_child units m p content depth x e =
+    other_by (is_child depth tag_member x.entry) (is_child depth tag_variant_part x.entry) (Member x) (variant_items content (variant_of units m p x)) e
+
+pub known_items : (units : List UnitAnswer) (m : Recorded) (p : Place) (s : Standing) (e : Entry) (further : ℕ) (known xs : List Standing) (old new : List Item)
+    → known ≡ contents s → e ≡ s.entry → xs ≡ known → further ≡ longest_chain - 1
+    → new ≡ old ++ flat_map (child_items units m p (items units m p further) e.depth) xs → new ≡ old ++ items units m p longest_chain s
+known_items units m p s e further known xs old new are is same less pushed =
+    let some : 0 < longest_chain = omega arith in
+    let f : Standing → List Item = child_items units m p (items units m p (longest_chain - 1)) s.entry.depth in
+    pushed ∙ ap (λ (n : ℕ). old ++ flat_map (child_items units m p (items units m p n) e.depth) xs) less
+    ∙ ap (λ (x : Entry). old ++ flat_map (child_items units m p (items units m p (longest_chain - 1)) x.depth) xs) is
+    ∙ ap (λ (ys : List Standing). old ++ flat_map f ys) (same ∙ are)
+    ∙ ap (λ (ys : List Item). old ++ ys)
+    (filtered f (stands_in s.entry.depth) (inside s) (λ x none. other_child units m p (items units m p (longest_chain - 1)) s.entry.depth x none) ∙ sym (more_items units m p longest_chain s some))

@@ -11,6 +11,7 @@ use Rattle.dwarf_types.specs.declared.class.Class.{Class}
 use Rattle.dwarf_types.specs.declared.class.Class.TheVariants as classes
 use Rattle.dwarf_types.specs.declared.behind.Behind.{Behind}
 use Rattle.dwarf_types.specs.declared.behind.Behind.TheVariants as behinds
+use Rattle.dwarf_types.specs.Structures.{tag_variant_part}
 use Rattle.dwarf_types.specs.Types.{class_at, type_of, behind}
 use Rattle.dwarf_types.specs.Sizes.{type_size}
 use Rattle.var_values.specs.declared.mark.Mark.{Mark}
@@ -28,9 +29,6 @@ use Rattle.var_values.specs.Lists.{is_listed}
 
 abbrev pub tag_variant : ℕ
 tag_variant = 0x19
-
-abbrev pub tag_variant_part : ℕ
-tag_variant_part = 0x33
 
 abbrev pub at_discr : ℕ
 at_discr = 0x15

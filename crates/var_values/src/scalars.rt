@@ -178,7 +178,7 @@ fn push_based(
 fn push_enumerated<'r, 'k, 'a>(
     text: &mut Text,
     units: &TypedUnits<'r, 'k, 'a>,
-    standing: &Standing<'r, 'a>,
+    standing: &TypeStanding<'r, 'k, 'a>,
     size: u64,
     count: u64,
     word: u128,
@@ -189,7 +189,7 @@ fn push_enumerated<'r, 'k, 'a>(
     ensures { OnOk result (text.new ≡ text.old ++ scalars.word_text classes.Enumeration
         units.now standing.now size count word) }
 {
-    let number = number_of(behind_is_signed(units, standing), count, word);
+    let number = number_of(behind_is_signed(units, standing.standing()), count, word);
     push_enumeration(text, units.units(), standing, size, number)
 }
 
@@ -197,7 +197,7 @@ fn push_enumerated<'r, 'k, 'a>(
 fn push_word<'r, 'k, 'a>(
     text: &mut Text,
     units: &TypedUnits<'r, 'k, 'a>,
-    standing: &Standing<'r, 'a>,
+    standing: &TypeStanding<'r, 'k, 'a>,
     size: u64,
     count: u64,
     word: u128,
@@ -211,7 +211,7 @@ fn push_word<'r, 'k, 'a>(
     match class_of(standing.entry().tag) {
         Class::Pointing => push_address(text, word as u64),
         Class::Enumeration => push_enumerated(text, units, standing, size, count, word),
-        Class::Base => push_based(text, standing, size, count, word),
+        Class::Base => push_based(text, standing.standing(), size, count, word),
         Class::Passed | Class::Members | Class::Array | Class::Another => Ok(()),
     }
 }
@@ -236,7 +236,7 @@ pub fn push_scalar<'r, 'k, 'a>(
     let bits = bits_of(place, size);
     match word_in(view, place, bits) {
         Ok(word) => {
-            push_word(text, units, standing.standing(), size, bits.count, word)?;
+            push_word(text, units, standing, size, bits.count, word)?;
             Ok(None)
         }
         Err(mark) => Ok(Some(mark)),

@@ -1,16 +1,17 @@
 //! Texts of scalars (DWARF 4 sections 5.1, 5.7 and 7.8).
 
-ghost use Rattle.std.specs.Prelude.{◌≡◌, ◌<◌, ◌≤◌, ◌^◌, ◌*◌, ◌∷◌, [], ◌++◌, pos, filter, find, OnOk, option_copied};
+ghost use Rattle.std.specs.Prelude.{◌≡◌, ◌<◌, ◌≤◌, ◌^◌, ◌∷◌, [], ◌++◌, pos, filter, find, OnOk, option_copied};
 ghost use Rattle.std.specs.Fmt.{signed_decimal};
-ghost use Rattle.dwarf_entries.specs.Standing.{is_child};
+ghost use Rattle.dwarf_entries.specs.Standing.{is_child, children_tagged};
 ghost use Rattle.dwarf_entries.specs.Tags.{tag_enumerator};
 ghost use Rattle.var_values.specs.Texts as texts;
 
 use causes::NoMemory;
 use dwarf_entries::names::CONST_VALUE;
 use dwarf_entries::tags::ENUMERATOR;
-use dwarf_entries::{Standing, is_child, name_or_empty, number};
+use dwarf_entries::{is_child, name_or_empty, number};
 use dwarf_info::{Entry, Units};
+use dwarf_types::{TypeStanding, number_key};
 use itoa::Buffer;
 use pm_text::Text;
 use std::str;
@@ -144,21 +145,14 @@ pub fn push_base(
     }
 }
 
-/// The number of values of a type of this size, in bytes.
-fn range(size: u64) -> i128
-    requires { size ≤ 8 }
-    ensures { result ≡ pos (2 ^ (8 * size)) }
-{
-    1 << (8 * size)
-}
-
 /// Whether a constant is a value, as numbers of a type of this size.
+#[tactic(auto, using(crate::proofs::EnumeratorLaws::same_keys))]
 pub fn equals(size: u64, value: i128, constant: Option<i128>) -> bool
     requires { size ≤ 8 }
     ensures { result ≡ texts.equals size value constant }
 {
     match constant {
-        Some(constant) => constant.rem_euclid(range(size)) == value.rem_euclid(range(size)),
+        Some(constant) => number_key(size, constant) == number_key(size, value),
         None => false,
     }
 }
@@ -190,12 +184,33 @@ fn enumerator<'r, 'a>(
     None
 }
 
+/// The first enumerator of a value, which is looked up where they are known by their numbers.
+fn first_enumerator<'r, 'k, 'a>(
+    standing: &TypeStanding<'r, 'k, 'a>,
+    size: u64,
+    value: i128,
+) -> Option<&'r Entry<'a>>
+    requires { size ≤ 8 }
+    ensures { option_copied result ≡ find (texts.has_value size value)
+        (children_tagged tag_enumerator standing.now) }
+{
+    if let Some(known) = standing.enumerators_of(size) {
+        return known.first(value);
+    }
+    enumerator(
+        standing.standing().inside(),
+        standing.entry().depth,
+        size,
+        value,
+    )
+}
+
 /// Appends the name of the first enumerator of a value, or else the value.
 #[tactic(auto, unfolding(crate::specs::Texts::enumeration_text))]
-pub fn push_enumeration<'r, 'a>(
+pub fn push_enumeration<'r, 'k, 'a>(
     text: &mut Text,
     units: &'r Units<'a>,
-    standing: &Standing<'r, 'a>,
+    standing: &TypeStanding<'r, 'k, 'a>,
     size: u64,
     value: i128,
 ) -> Result<(), NoMemory>
@@ -203,7 +218,7 @@ pub fn push_enumeration<'r, 'a>(
     ensures { OnOk result (text.new
         ≡ text.old ++ texts.enumeration_text units.now standing.now size value) }
 {
-    match enumerator(standing.inside(), standing.entry().depth, size, value) {
+    match first_enumerator(standing, size, value) {
         Some(entry) => text.push_plain(name_or_empty(units, &entry.attributes)),
         None => text.push_decimal(value),
     }

@@ -327,13 +327,7 @@ fn push_members<'t, 'r, 'k, 'w, 'v, 'a>(
         (the_items context.now.units.now context.now.view.now.memory place.now longest_chain
         standing.now))) }
 {
-    let items = items_of(
-        context.alloc,
-        context.units,
-        context.view,
-        standing.standing(),
-        place,
-    )?;
+    let items = items_of(context.alloc, context.units, context.view, standing, place)?;
     text.push_str("{")?;
     let entries = items.as_slice();
     let mut is_first = true;

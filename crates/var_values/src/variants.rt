@@ -1,7 +1,7 @@
 //! The variant that a discriminant chooses, and what stands in a structure (DWARF 4 section 5.5.9).
 
 ghost use Rattle.std.specs.Prelude.{◌≡◌, ◌≤◌, ◌<◌, ◌^◌, ◌&&◌, ◌++◌, true, nat_le, Some, Ok, ok_or, unwrap_or, IfSome};
-ghost use Rattle.std.specs.Prelude.{IfOk, OnOk};
+ghost use Rattle.std.specs.Prelude.{IfOk, OnOk, flat_map};
 ghost use Rattle.std.specs.Option.{is_none};
 ghost use Rattle.dwarf_info.specs.Attributes.{as_block, attribute as the_attribute, valued};
 ghost use Rattle.dwarf_entries.specs.Origins.{longest_chain};
@@ -33,7 +33,9 @@ use dwarf_entries::{
 };
 use dwarf_expr::FrameView;
 use dwarf_info::{Attributes, Entry};
-use dwarf_types::{Behind, Class, TypedUnits, class_of, resolved, type_of, type_size};
+use dwarf_types::{
+    Behind, Class, TypeStanding, TypedUnits, VARIANT_PART, class_of, resolved, type_of, type_size,
+};
 use pm_text::Items;
 use std::alloc::Global;
 
@@ -44,8 +46,6 @@ const DISCR_VALUE: u64 = 0x16;
 const DISCR_LIST: u64 = 0x3d;
 
 const VARIANT: u64 = 0x19;
-
-const VARIANT_PART: u64 = 0x33;
 
 /// A structure that stands somewhere.
 #[derive(Drop)]
@@ -383,6 +383,55 @@ fn push_items<'r, 'a>(
     Ok(())
 }
 
+/// Appends what stands in the places of these children of an entry of this depth.
+#[tactic(auto, using(crate::proofs::VariantLaws::one_pushed))]
+fn push_children<'r, 'a>(
+    items: &mut Items<Item<'r, 'a>>,
+    structure: &Structure<'_, 'r, '_, '_, '_, '_, '_, 'a>,
+    further: u32,
+    depth: u32,
+    children: &[Standing<'r, 'a>],
+) -> Result<(), NoMemory>
+    requires near { IsNear 1 structure.now.place.now.offset }
+    ensures { OnOk result (items.new ≡ items.old ++ flat_map (variants.child_items
+        structure.now.units.now structure.now.view.now.memory structure.now.place.now
+        (variants.items structure.now.units.now structure.now.view.now.memory
+        structure.now.place.now further) depth) children.now) }
+{
+    let mut left = children;
+    'children: while let [child, behind @ ..] = left {
+        push_child(items, structure, further, depth, child.copied())?;
+        left = behind;
+    }
+    Ok(())
+}
+
+/// Appends what stands in a structure. Of its children only members and variant parts are looked
+/// at, where it is known which these are.
+#[tactic(auto, using(crate::proofs::VariantLaws::known_items))]
+fn push_standing<'r, 'a>(
+    items: &mut Items<Item<'r, 'a>>,
+    structure: &Structure<'_, 'r, '_, '_, '_, '_, '_, 'a>,
+    standing: &TypeStanding<'r, '_, 'a>,
+) -> Result<(), NoMemory>
+    requires near { IsNear 1 structure.now.place.now.offset }
+    ensures { OnOk result (items.new ≡ items.old ++ variants.items structure.now.units.now
+        structure.now.view.now.memory structure.now.place.now longest_chain standing.now) }
+{
+    let Some(contents) = standing.contents() else {
+        return push_items(items, structure, LONGEST_CHAIN, standing.standing());
+    };
+    let depth = standing.entry().depth;
+    push_children(
+        items,
+        structure,
+        LONGEST_CHAIN - 1,
+        depth,
+        contents.as_slice(),
+    )?;
+    Ok(())
+}
+
 /// What stands in a structure at a place: its members, and in the place of a variant part those of
 /// the variant that is chosen.
 ///
@@ -393,7 +442,7 @@ pub fn items_of<'r, 'k, 'a>(
     alloc: Global,
     units: &TypedUnits<'r, 'k, 'a>,
     view: &FrameView<'_>,
-    standing: &Standing<'r, 'a>,
+    standing: &TypeStanding<'r, 'k, 'a>,
     place: &Place<'_>,
 ) -> Result<Items<Item<'r, 'a>>, NoMemory>
     requires near { IsNear 1 place.now.offset }
@@ -402,6 +451,6 @@ pub fn items_of<'r, 'k, 'a>(
 {
     let structure = Structure { units, view, place };
     let mut items = Items::new(alloc);
-    push_items(&mut items, &structure, LONGEST_CHAIN, standing)?;
+    push_standing(&mut items, &structure, standing)?;
     Ok(items)
 }

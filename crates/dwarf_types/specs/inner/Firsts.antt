@@ -1,0 +1,17 @@
+-- The first of each number among entries, where one more is added behind the others.
+use Rattle.std.specs.Prelude.{◌==◌, ℕ, Option, Some, None, option_map, if◌then◌else◌}
+use Rattle.dwarf_info.specs.declared.entry.Entry.{Entry}
+use Rattle.dwarf_info.specs.Attributes.{valued, as_number}
+use Rattle.dwarf_entries.specs.Names.{at_const_value}
+use Rattle.dwarf_entries.specs.Tags.{tag_enumerator}
+use Rattle.dwarf_entries.specs.Standing.{is_child}
+use Rattle.dwarf_types.specs.calls.Numbers.{number_key}
+
+-- the number of an enumerator that is a child of an entry of that depth
+abbrev pub key_in : ℕ → ℕ → Entry → Option ℕ
+key_in depth size e = if is_child depth tag_enumerator e then option_map (number_key size) (valued as_number at_const_value e.attributes) else None
+
+-- what an entry with that number adds at the number n
+abbrev pub own_at : Entry → Option ℕ → ℕ → Option Entry
+own_at e None n = None
+own_at e (Some key) n = if key == n then Some e else None
