@@ -1,7 +1,9 @@
 //! What the bytes of a module say of its source.
 
-ghost use Rattle.std.specs.Prelude.{◌≡◌, ◌≤◌, length, IfOk, Some};
+ghost use Rattle.std.specs.Prelude.{◌≡◌, ◌≤◌, length, IfOk, IfSome, Some};
 ghost use Rattle.dwarf_info.specs.Sections.{IsReadable5, greatest_section};
+ghost use Rattle.dwarf_scopes.specs.Scopes.{subprogram_at, inlined_at};
+ghost use Rattle.dwarf_scopes.specs.calls.Tabled.{IsTable};
 ghost use Rattle.debug_frames.specs.Information as definitions;
 ghost use Rattle.debug_frames.specs.Frames.{file_in};
 ghost use Rattle.debug_frames.specs.Programs.{program_there};
@@ -13,7 +15,9 @@ use crate::files::Path;
 use crate::programs::Programs;
 use crate::sections::sections_of;
 use causes::NoMemory;
+use dwarf_entries::Standing;
 use dwarf_info::{Sections5, Units};
+use dwarf_scopes::{Found, SubprogramTable, found_at, subprogram_at};
 use dwarf5_info::read_units5;
 use std::alloc::Global;
 use std::marker::Model;
@@ -27,13 +31,16 @@ pub struct Information<'a> {
     sections: Sections5<'a>,
     // The units of versions 4 and 5.
     units: Units<'a>,
+    // Gathered where they pay.
+    subprograms: Option<SubprogramTable>,
     // The line programs that the units name.
     programs: Programs<'a>,
     names: Names,
 }
 
 impl<'a> Model for Information<'a> {
-    ghost use Rattle.std.specs.Prelude.{◌≡◌};
+    ghost use Rattle.std.specs.Prelude.{◌≡◌, IfSome};
+    ghost use Rattle.dwarf_scopes.specs.calls.Tabled.{IsTable};
     ghost use Rattle.debug_frames.specs.Information.{SourceInformation};
     ghost use Rattle.debug_frames.specs.calls.Kept.{programs_of};
 
@@ -41,7 +48,8 @@ impl<'a> Model for Information<'a> {
 
     ghost view = { λ x. record { sections = x.sections; units = x.units; names = x.names } };
 
-    ghost invariant = { λ x. x.programs ≡ programs_of x.sections x.units };
+    ghost invariant = { λ x. (x.programs ≡ programs_of x.sections x.units)
+        × IfSome x.subprograms (IsTable x.units) };
 }
 
 /// What sections of debugging information say, beside names of functions.
@@ -58,9 +66,25 @@ fn said<'a>(
     Ok(Information {
         sections,
         units,
+        subprograms: None,
         programs,
         names,
     })
+}
+
+/// The table of the subprograms of units, which may be gathered already.
+fn gathered(
+    alloc: Global,
+    units: &Units<'_>,
+    known: Option<SubprogramTable>,
+) -> Result<SubprogramTable, NoMemory>
+    requires { IfSome known (IsTable units.now) }
+    ensures { IfOk result (IsTable units.now) }
+{
+    match known {
+        Some(table) => Ok(table),
+        None => SubprogramTable::of(alloc, units.as_slice()),
+    }
 }
 
 impl<'a> Information<'a> {
@@ -74,6 +98,61 @@ impl<'a> Information<'a> {
         let sections = sections_of(bytes, module_.parts().customs.as_slice());
         let names = function_names(alloc, bytes, module_)?;
         said(alloc, sections, names)
+    }
+
+    /// Gathers the subprograms, so that each look-up behind it takes no time linear in the entries.
+    pub fn gather(&mut self, alloc: Global) -> Result<(), NoMemory>
+        ensures { self.new ≡ self.old }
+    {
+        let table = gathered(alloc, &self.units, self.subprograms.take())?;
+        self.subprograms = Some(table);
+        Ok(())
+    }
+
+    /// The subprogram at an address.
+    pub fn subprogram_at<'r>(
+        &'r self,
+        alloc: Global,
+        address: u32,
+    ) -> Result<Option<Standing<'r, 'a>>, NoMemory>
+        ensures { IfOk result (λ x. x
+            ≡ subprogram_at self.now.sections self.now.units address) }
+    {
+        let units = self.units.as_slice();
+        match &self.subprograms {
+            Some(table) => {
+                let found = table.at(alloc, &self.sections, units, address)?;
+                Ok(found)
+            }
+            None => {
+                let found = subprogram_at(alloc, &self.sections, units, address)?;
+                Ok(found)
+            }
+        }
+    }
+
+    /// What stands at an address.
+    pub(crate) fn found_at<'r>(
+        &'r self,
+        alloc: Global,
+        address: u32,
+    ) -> Result<Found<'r, 'a>, NoMemory>
+        ensures subprogram { IfOk result (λ x. x.subprogram
+            ≡ subprogram_at self.now.sections self.now.units address) }
+        ensures inlined { IfOk result (λ x. x.inlined
+            ≡ inlined_at self.now.sections self.now.units address) }
+    {
+        let units = self.units.as_slice();
+        match &self.subprograms {
+            Some(table) => {
+                let found = table.find(alloc, &self.sections, units, address)?;
+                Ok(found)
+            }
+            None => {
+                let found = found_at(alloc, &self.sections, units, address)?;
+                Ok(found)
+            }
+        }
     }
 
     pub fn sections(&self) -> &Sections5<'a>

@@ -1,7 +1,6 @@
 //! What is known of the code addresses of frames.
 
 ghost use Rattle.std.specs.Prelude.{◌≡◌, IfOk, IfSome, option_copied, option_map};
-ghost use Rattle.dwarf_scopes.specs.Scopes.{subprogram_at, inlined_at};
 ghost use Rattle.debug_frames.specs.Frames as definitions;
 ghost use Rattle.debug_frames.specs.Programs.{located_at};
 ghost use Rattle.debug_frames.specs.inner.Paths.{row_place};
@@ -11,7 +10,6 @@ use crate::information::Information;
 use crate::rows::RowPlace;
 use causes::NoMemory;
 use dwarf_entries::{Standing, name_of};
-use dwarf_scopes::{Found, Subprograms, found_at};
 use pm_text::Items;
 use std::alloc::Global;
 use std::collections::BTreeMap;
@@ -69,40 +67,16 @@ fn place_at<'a>(
     Ok(place)
 }
 
-/// What stands at an address: by the subprograms where they were gathered.
-fn found_in<'r, 'a>(
-    alloc: Global,
-    information: &'r Information<'a>,
-    subprograms: &Option<Subprograms<'r, 'a>>,
-    address: u32,
-) -> Result<Found<'r, 'a>, NoMemory>
-    requires { IfSome subprograms.now (λ s. s ≡ information.now.units) }
-    ensures subprogram { IfOk result (λ x. x.subprogram
-        ≡ subprogram_at information.now.sections information.now.units address) }
-    ensures inlined { IfOk result (λ x. x.inlined
-        ≡ inlined_at information.now.sections information.now.units address) }
-{
-    match subprograms {
-        Some(subprograms) => subprograms.find(alloc, information.sections(), address),
-        None => {
-            let units = information.units().as_slice();
-            found_at(alloc, information.sections(), units, address)
-        }
-    }
-}
-
 impl<'r, 'a> Resolved<'r, 'a> {
     /// What is known of an address, by the subprograms and the line programs of all units.
     pub fn of(
         alloc: Global,
         information: &'r Information<'a>,
-        subprograms: &Option<Subprograms<'r, 'a>>,
         address: u32,
     ) -> Result<Self, NoMemory>
-        requires { IfSome subprograms.now (λ s. s ≡ information.now.units) }
         ensures { IfOk result (λ x. x ≡ resolved_at information.now address) }
     {
-        let found = found_in(alloc, information, subprograms, address)?;
+        let found = information.found_at(alloc, address)?;
         let place = place_at(alloc, information, address)?;
         Ok(Resolved {
             address,
@@ -118,8 +92,6 @@ impl<'r, 'a> Resolved<'r, 'a> {
 #[derive(Drop)]
 pub struct Symbolizer<'r, 'a> {
     information: &'r Information<'a>,
-    // Gathered where they pay.
-    subprograms: Option<Subprograms<'r, 'a>>,
     known: BTreeMap<u32, Resolved<'r, 'a>>,
 }
 
@@ -135,43 +107,19 @@ impl<'r, 'a> Model for Symbolizer<'r, 'a> {
 
     ghost view = { λ s. s.information.now };
 
-    ghost invariant = { λ s. (IfSome s.subprograms (λ x. x ≡ s.information.now.units))
-        × ((q : ℕ) → IfSome (get nat_cmp s.known q) (λ x. x ≡ resolved_at s.information.now q)) };
-}
-
-/// For so few frames gathering the subprograms takes longer than going through the entries for each.
-const FEW: usize = 4;
-
-/// The subprograms, where so many frames are asked for that gathering them pays.
-fn gathered<'r, 'a>(
-    alloc: Global,
-    information: &'r Information<'a>,
-    frames: usize,
-) -> Result<Option<Subprograms<'r, 'a>>, NoMemory>
-    ensures { IfOk result (λ o. IfSome o (λ s. s ≡ information.now.units)) }
-{
-    if frames <= FEW {
-        return Ok(None);
-    }
-    let subprograms = Subprograms::of(alloc, information.units().as_slice())?;
-    Ok(Some(subprograms))
+    ghost invariant = { λ s. (q : ℕ)
+        → IfSome (get nat_cmp s.known q) (λ x. x ≡ resolved_at s.information.now q) };
 }
 
 impl<'r, 'a> Symbolizer<'r, 'a> {
-    /// Nothing is known yet. It is made for so many frames.
-    pub fn new(
-        alloc: Global,
-        information: &'r Information<'a>,
-        frames: usize,
-    ) -> Result<Self, NoMemory>
-        ensures { IfOk result (λ s. s ≡ information.now) }
+    /// Nothing is known yet.
+    pub fn new(alloc: Global, information: &'r Information<'a>) -> Self
+        ensures { result ≡ information.now }
     {
-        let subprograms = gathered(alloc, information, frames)?;
-        Ok(Symbolizer {
+        Symbolizer {
             information,
-            subprograms,
             known: BTreeMap::new(alloc),
-        })
+        }
     }
 
     pub(crate) fn information(&self) -> &'r Information<'a>
@@ -184,7 +132,7 @@ impl<'r, 'a> Symbolizer<'r, 'a> {
     pub(crate) fn resolve(&self, alloc: Global, address: u32) -> Result<Resolved<'r, 'a>, NoMemory>
         ensures { IfOk result (λ x. x ≡ resolved_at self.now address) }
     {
-        Resolved::of(alloc, self.information, &self.subprograms, address)
+        Resolved::of(alloc, self.information, address)
     }
 
     /// What is known of an address, where it was asked for before.

@@ -11,8 +11,8 @@ use Rattle.dwarf_entries.specs.Standing.{Standing, standing, of_unit, inside}
 use Rattle.dwarf_entries.specs.Tags.{tag_subprogram}
 use Rattle.dwarf_entries.proofs.Found.{found_first, found_later}
 use Rattle.dwarf_scopes.specs.Ranges.{holds}
-use Rattle.dwarf_scopes.specs.Scopes.{declares, is_removed, variables_of, is_subprogram_at, subprogram_at}
-use Rattle.dwarf_scopes.specs.inner.Picks.{is_variable_of, is_kept, kept_of, kept}
+use Rattle.dwarf_scopes.specs.Scopes.{declares, is_removed, variables_of, is_subprogram_at, subprogram_at, is_scope_at, scopes_in}
+use Rattle.dwarf_scopes.specs.inner.Picks.{is_variable_of, is_inlined, is_wanted, is_kept, kept_of, kept}
 
 both_step : {A : Type 0} (f g : A → Bool) (x : A) (xs : List A) (b : Bool) → filter f (filter g xs) ≡ filter (λ y. g y && f y) xs
     → filter f (if b then (x ∷ filter g xs) else filter g xs) ≡ (if b && f x then (x ∷ filter (λ y. g y && f y) xs) else filter (λ y. g y && f y) xs)
@@ -31,6 +31,23 @@ variables_are x = sym (filter_both declares (λ t. t.entry.depth == suc x.entry.
 
 pub last_first : {A : Type 0} (f : A → Bool) (xs : List A) (x : A) → reverse (filter f (xs ++ x ∷ [])) ≡ reverse (filter f (x ∷ [])) ++ reverse (filter f xs)
 last_first f xs x = rw (filter-append f xs (x ∷ [])) (reverse-append (filter f xs) (filter f (x ∷ [])))
+
+-- ---- those that pass a second test too
+
+second_step : {A : Type 0} (f g : A → Bool) (x : A) (xs : List A) (t u : Bool) → f x ≡ t → filter f (filter (λ y. f y && g y) xs) ≡ filter f (filter g xs)
+    → filter f (if t && u then (x ∷ filter (λ y. f y && g y) xs) else filter (λ y. f y && g y) xs) ≡ filter f (if u then (x ∷ filter g xs) else filter g xs)
+second_step {A = A} f g x xs true true e h = ap (λ (ys : List A). if f x then (x ∷ ys) else ys) h
+second_step f g x xs true false e h = h
+second_step f g x xs false true e h = rw e h
+second_step f g x xs false false e h = h
+
+second_alone : {A : Type 0} (f g : A → Bool) (xs : List A) → filter f (filter (λ y. f y && g y) xs) ≡ filter f (filter g xs)
+second_alone f g [] = refl
+second_alone f g (x ∷ xs) = second_step f g x xs (f x) (g x) refl (second_alone f g xs)
+
+pub inlined_alone : (s : SectionBytes5) (a : ℕ) (x : Standing)
+    → reverse (filter is_inlined (x ∷ filter (is_wanted false s a) (inside x))) ≡ reverse (filter is_inlined (scopes_in s a x))
+inlined_alone s a x = ap (λ (ys : List Standing). reverse (if is_inlined x then (x ∷ ys) else ys)) (second_alone is_inlined (is_scope_at s a) (inside x))
 
 -- ---- subprograms that were gathered
 
@@ -74,7 +91,7 @@ found_kept s a units = found_in_units s a units
 
 -- ---- what is found in the part of one element after the other
 
-next_part : {A : Type 0} (xs : List A) (i : ℕ) (x : A) → i < length xs → x ≡ get_or xs i x → drop i xs ≡ x ∷ drop (i + 1) xs
+pub next_part : {A : Type 0} (xs : List A) (i : ℕ) (x : A) → i < length xs → x ≡ get_or xs i x → drop i xs ≡ x ∷ drop (i + 1) xs
 next_part xs i x lt is = drop-cons xs i x lt ∙ ap (λ y. y ∷ drop (suc i) xs) (sym is) ∙ ap (λ (n : ℕ). x ∷ drop n xs) (sym (add-one i))
 
 pub part_holds : {A B : Type 0} (test : B → Bool) (part : A → List B) (xs : List A) (i : ℕ) (x : A) (y : B) → i < length xs → x ≡ get_or xs i x → find test (part x) ≡ Some y

@@ -5,3 +5,5 @@ pub mod NumberLaws
 pub mod HolderLaws
 pub mod KnownLaws
 pub mod AskedLaws
+pub mod TableLaws
+pub mod ListedLaws

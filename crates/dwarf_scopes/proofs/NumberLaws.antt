@@ -44,7 +44,7 @@ none_before test index from (x ∷ xs) le = by (test x) (none_before test index 
   by false later = later
 
 -- A number before all of these counts.
-least_first : {A : Type 0} (listed : A → Bool) (test : ℕ → Bool) (index from : ℕ) (xs : List A) → index < from → first_or test (Some index) (numbers_from listed from xs) ≡ Some index
+pub least_first : {A : Type 0} (listed : A → Bool) (test : ℕ → Bool) (index from : ℕ) (xs : List A) → index < from → first_or test (Some index) (numbers_from listed from xs) ≡ Some index
 least_first listed test index from [] lt = refl
 least_first listed test index from (x ∷ xs) lt = by (listed x) (least_first listed test index (from + 1) xs (omega (arith, lt))) where
   before : ltb index from ≡ true

@@ -3,3 +3,4 @@ pub mod Numbered
 pub mod Steps
 pub mod Kinds
 pub mod Knowing
+pub mod Tabled

@@ -3,25 +3,27 @@
 ghost use Rattle.std.specs.Prelude.{◌≡◌, IfOk, find, slice_get, option_and_then};
 ghost use Rattle.dwarf_scopes.specs.Ranges as ranges;
 ghost use Rattle.dwarf_scopes.specs.calls.Knowing.{AreRight};
-ghost use Rattle.dwarf_scopes.specs.inner.Holding.{bounds_in, is_listed, AreHolders};
-ghost use Rattle.dwarf_scopes.specs.calls.Numbered.{ranges_from, numbers_from, passes, is_before, first_or};
+ghost use Rattle.dwarf_scopes.specs.inner.Holding.{bounds_in, AreHolders};
+ghost use Rattle.dwarf_scopes.specs.calls.Numbered.{ranges_from, passes, is_before, first_or};
 
 use crate::asked::{KnownRanges, no_ranges};
+use crate::listed::listed_of;
 use crate::ranges::{bounds, holds_by_known};
 use crate::steps::{Range, Steps};
+use crate::table::PlacedSubprograms;
 use causes::NoMemory;
-use dwarf_entries::names::RANGES;
-use dwarf_entries::{Standing, offset};
+use dwarf_entries::Standing;
 use dwarf_info::Sections5;
 use pm_text::Items;
 use std::alloc::Global;
 
 /// What finds the first of many entries that holds an address: by halving among those that say
-/// where they begin and end. Those that have a list instead are asked one after the other.
+/// where they begin and end. Those that have a list instead are asked one after the other, but for
+/// those with the list of an earlier one.
 #[derive(Drop)]
 pub struct Holders {
     bounded: Steps,
-    // The numbers of those that have a list instead.
+    // The numbers of those that have a list instead, of each list the first.
     listed: Items<usize>,
 }
 
@@ -38,31 +40,10 @@ fn ranges_of(alloc: Global, entries: &[Standing<'_, '_>]) -> Result<Vec<Range>, 
     Ok(ranges)
 }
 
-/// Whether the list of an entry says what it holds.
-fn is_listed(standing: &Standing<'_, '_>) -> bool
-    ensures { result ≡ is_listed standing.now }
-{
-    let entry = standing.entry();
-    bounds(entry).is_none() && offset(&entry.attributes, RANGES).is_some()
-}
-
-/// The numbers of those that have a list instead.
-fn listed_of(alloc: Global, entries: &[Standing<'_, '_>]) -> Result<Items<usize>, NoMemory>
-    ensures { IfOk result (λ numbers. numbers ≡ numbers_from is_listed 0 entries.now) }
-{
-    let mut numbers = Items::new(alloc);
-    'entries: for (index, standing) in entries.iter().enumerate() {
-        if is_listed(standing) {
-            numbers.push(index)?;
-        }
-    }
-    Ok(numbers)
-}
-
 /// Whether an entry is there, and holds an address.
 fn holds_at(
     sections: &Sections5<'_>,
-    entries: &[Standing<'_, '_>],
+    entries: &PlacedSubprograms<'_, '_, '_>,
     index: usize,
     address: u32,
     lists: &mut KnownRanges,
@@ -73,7 +54,7 @@ fn holds_at(
     ensures right { AreRight sections.now address lists.new }
 {
     match entries.get(index) {
-        Some(standing) => holds_by_known(sections, address, standing, lists),
+        Some(standing) => holds_by_known(sections, address, &standing, lists),
         None => Ok(false),
     }
 }
@@ -91,7 +72,7 @@ fn is_before(named: Option<usize>, index: usize) -> bool
 /// that stands before it.
 fn first_or(
     sections: &Sections5<'_>,
-    entries: &[Standing<'_, '_>],
+    entries: &PlacedSubprograms<'_, '_, '_>,
     address: u32,
     named: Option<usize>,
     numbers: &[usize],
@@ -113,10 +94,13 @@ fn first_or(
     Ok(named)
 }
 
-fn entry_of<'r, 'a>(entries: &[Standing<'r, 'a>], number: Option<usize>) -> Option<Standing<'r, 'a>>
+fn entry_of<'r, 'a>(
+    entries: &PlacedSubprograms<'_, 'r, 'a>,
+    number: Option<usize>,
+) -> Option<Standing<'r, 'a>>
     ensures { result ≡ option_and_then (slice_get entries.now) number }
 {
-    Some(entries.get(number?)?.copied())
+    entries.get(number?)
 }
 
 impl Holders {
@@ -135,7 +119,7 @@ impl Holders {
         &self,
         alloc: Global,
         sections: &Sections5<'a>,
-        entries: &[Standing<'r, 'a>],
+        entries: &PlacedSubprograms<'_, 'r, 'a>,
         address: u32,
     ) -> Result<Option<Standing<'r, 'a>>, NoMemory>
         requires { AreHolders entries.now self.now }

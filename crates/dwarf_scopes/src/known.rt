@@ -72,7 +72,7 @@ pub fn way_of(unit: &Unit<'_>) -> ListWay
 }
 
 /// The place of the list of a unit at an offset.
-fn place_of(unit: &Unit<'_>, at: usize) -> ListPlace
+pub fn place_of(unit: &Unit<'_>, at: usize) -> ListPlace
     ensures { result ≡ place_of unit.now at }
 {
     ListPlace {
@@ -89,7 +89,8 @@ pub fn is_same_way(way: ListWay, other: ListWay) -> bool
     way.version5 == other.version5 && way.addresses == other.addresses
 }
 
-fn is_same(place: ListPlace, other: ListPlace) -> bool
+/// Whether places are one.
+pub fn is_same(place: ListPlace, other: ListPlace) -> bool
     ensures { result ≡ true → place ≡ other }
 {
     is_same_way(place.way, other.way) && place.base == other.base && place.at == other.at
@@ -109,7 +110,7 @@ pub fn way_number(way: ListWay) -> u64
 }
 
 /// A number for each place at an offset below 2^32.
-fn number_of(place: ListPlace) -> u128 {
+pub fn number_of(place: ListPlace) -> u128 {
     let way = u128::from(way_number(place.way));
     let base = u128::from(place.base);
     (way * 0x1_0000_0000 + base) * 0x1_0000_0000 + place.at as u128 % 0x1_0000_0000

@@ -1,11 +1,11 @@
 //! The subprogram at an address, and the scopes and variables that are visible there (DWARF 4
 //! sections 3.3, 3.4 and 4.1).
 
-ghost use Rattle.std.specs.Prelude.{ℕ, ◌≡◌, ◌++◌, OnOk, IfOk, filter, reverse};
-ghost use Rattle.dwarf_entries.specs.Standing.{Standing as Stands, standing_in};
+ghost use Rattle.std.specs.Prelude.{ℕ, ◌≡◌, ◌∷◌, ◌++◌, OnOk, IfOk, filter, reverse};
+ghost use Rattle.dwarf_entries.specs.Standing.{Standing as Stands, standing_in, inside};
 ghost use Rattle.dwarf_scopes.specs.Scopes as scopes;
 ghost use Rattle.dwarf_scopes.specs.calls.Knowing.{AreRight};
-ghost use Rattle.dwarf_scopes.specs.inner.Picks.{is_scope, is_inlined};
+ghost use Rattle.dwarf_scopes.specs.inner.Picks.{is_scope, is_inlined, is_wanted};
 
 use crate::asked::{KnownRanges, no_ranges};
 use crate::ranges::holds_by_known;
@@ -61,9 +61,36 @@ impl<'s, 'a> ScopeAt<'s, 'a> {
     }
 }
 
-/// Appends the scopes among these entries.
+fn is_inlined(standing: &Standing<'_, '_>) -> bool
+    ensures { result ≡ is_inlined standing.now }
+{
+    standing.entry().tag == INLINED_SUBROUTINE
+}
+
+/// Whether an entry is a scope that is wanted: lexical blocks are, or they are not asked for what
+/// they hold.
+fn is_wanted(
+    pick: &ScopeAt<'_, '_>,
+    blocks: bool,
+    standing: &Standing<'_, '_>,
+    lists: &mut KnownRanges,
+) -> Result<bool, NoMemory>
+    requires right { AreRight pick.now.sections.now pick.now.address lists.old }
+    ensures is { IfOk result (λ wanted. wanted
+        ≡ is_wanted blocks pick.now.sections.now pick.now.address standing.now) }
+    ensures right { AreRight pick.now.sections.now pick.now.address lists.new }
+{
+    if blocks || is_inlined(standing) {
+        pick.picks(standing, lists)
+    } else {
+        Ok(false)
+    }
+}
+
+/// Appends the scopes among these entries, with or without lexical blocks.
 fn push_scopes<'r, 'a>(
     pick: &ScopeAt<'_, 'a>,
+    blocks: bool,
     unit: &'r Unit<'a>,
     entries: &'r [Entry<'a>],
     lists: &mut KnownRanges,
@@ -71,13 +98,13 @@ fn push_scopes<'r, 'a>(
 ) -> Result<(), NoMemory>
     requires { AreRight pick.now.sections.now pick.now.address lists.old }
     ensures { OnOk result (found.new ≡ found.old
-        ++ filter (scopes.is_scope_at pick.now.sections.now pick.now.address)
+        ++ filter (is_wanted blocks pick.now.sections.now pick.now.address)
         (standing_in unit.now entries.now)) }
 {
     let mut left = entries;
     'entries: while let [entry, behind @ ..] = left {
         let standing = Standing::new(unit, entry, behind);
-        if pick.picks(&standing, lists)? {
+        if is_wanted(pick, blocks, &standing, lists)? {
             found.push(standing)?;
         }
         left = behind;
@@ -85,14 +112,16 @@ fn push_scopes<'r, 'a>(
     Ok(())
 }
 
-/// A subprogram, and the scopes in it that hold an address.
-pub fn scopes_in<'r, 'a>(
+/// A subprogram, and the scopes in it that hold an address, with or without lexical blocks.
+fn scopes_in<'r, 'a>(
     alloc: Global,
     sections: &Sections5<'a>,
     address: u32,
+    blocks: bool,
     subprogram: Standing<'r, 'a>,
 ) -> Result<Items<Standing<'r, 'a>>, NoMemory>
-    ensures { IfOk result (λ xs. xs ≡ scopes.scopes_in sections.now address subprogram.entry) }
+    ensures { IfOk result (λ xs. xs ≡ subprogram.entry
+        ∷ filter (is_wanted blocks sections.now address) (inside subprogram.entry)) }
 {
     let unit = subprogram.unit();
     let inside = subprogram.inside();
@@ -100,6 +129,7 @@ pub fn scopes_in<'r, 'a>(
     scopes.push(subprogram)?;
     push_scopes(
         &ScopeAt { sections, address },
+        blocks,
         unit,
         inside,
         &mut no_ranges(alloc),
@@ -120,13 +150,13 @@ pub fn scopes_at<'r, 'a>(
     ensures { IfOk result (λ xs. xs ≡ scopes.scopes_at sections.now units.now address) }
 {
     match subprogram_at(alloc, sections, units, address)? {
-        Some(subprogram) => scopes_in(alloc, sections, address, subprogram),
+        Some(subprogram) => scopes_in(alloc, sections, address, true, subprogram),
         None => Ok(Items::new(alloc)),
     }
 }
 
 /// The inlined subroutines among scopes, the last first.
-pub fn inlined_of<'r, 'a>(
+fn inlined_of<'r, 'a>(
     alloc: Global,
     scopes: Items<Standing<'r, 'a>>,
 ) -> Result<Items<Standing<'r, 'a>>, NoMemory>
@@ -135,11 +165,27 @@ pub fn inlined_of<'r, 'a>(
     let mut outer = scopes;
     let mut inlined = Items::new(alloc);
     'scopes: while let Some(scope) = outer.pop() {
-        if scope.entry().tag == INLINED_SUBROUTINE {
+        if is_inlined(&scope) {
             inlined.push(scope)?;
         }
     }
     Ok(inlined)
+}
+
+/// The inlined subroutines in a subprogram that hold an address, the innermost first. Lexical blocks
+/// are not asked.
+#[tactic(auto, using(crate::proofs::Filters::inlined_alone))]
+pub fn inlined_in<'r, 'a>(
+    alloc: Global,
+    sections: &Sections5<'a>,
+    address: u32,
+    subprogram: Standing<'r, 'a>,
+) -> Result<Items<Standing<'r, 'a>>, NoMemory>
+    ensures { IfOk result (λ xs. xs ≡ reverse (filter is_inlined
+        (scopes.scopes_in sections.now address subprogram.entry))) }
+{
+    let scopes = scopes_in(alloc, sections, address, false, subprogram)?;
+    inlined_of(alloc, scopes)
 }
 
 /// The inlined subroutines that hold an address, the innermost first.

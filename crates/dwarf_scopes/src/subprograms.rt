@@ -8,19 +8,17 @@ ghost use Rattle.dwarf_scopes.specs.calls.Knowing.{AreRight};
 ghost use Rattle.dwarf_scopes.specs.inner.Picks.{is_kept, kept_of, kept, inlined_from};
 
 use crate::asked::{KnownRanges, no_ranges};
-use crate::holders::Holders;
 use crate::ranges::holds_by_known;
-use crate::scopes::{inlined_of, is_removed, scopes_in};
+use crate::scopes::{inlined_in, is_removed};
 use causes::NoMemory;
 use dwarf_entries::tags::SUBPROGRAM;
 use dwarf_entries::{Pick, Standing, push_picked};
 use dwarf_info::{Entry, Sections5, Unit, UnitAnswer};
 use pm_text::Items;
 use std::alloc::Global;
-use std::marker::Model;
 
 /// Whether an entry is a subprogram that is not removed.
-fn is_kept(standing: &Standing<'_, '_>) -> bool
+pub fn is_kept(standing: &Standing<'_, '_>) -> bool
     ensures { result ≡ is_kept standing.now }
 {
     standing.entry().tag == SUBPROGRAM && !is_removed(standing)
@@ -50,7 +48,7 @@ fn push_kept<'r, 'a>(
     }
 }
 
-fn all_kept<'r, 'a>(
+pub fn all_kept<'r, 'a>(
     alloc: Global,
     units: &'r [UnitAnswer<'a>],
 ) -> Result<Items<Standing<'r, 'a>>, NoMemory>
@@ -73,7 +71,7 @@ pub struct Found<'r, 'a> {
 
 impl<'r, 'a> Found<'r, 'a> {
     /// By the subprogram there.
-    fn of(
+    pub(crate) fn of(
         alloc: Global,
         sections: &Sections5<'a>,
         address: u32,
@@ -85,8 +83,7 @@ impl<'r, 'a> Found<'r, 'a> {
     {
         match subprogram {
             Some(subprogram) => {
-                let scopes = scopes_in(alloc, sections, address, subprogram.copied())?;
-                let inlined = inlined_of(alloc, scopes)?;
+                let inlined = inlined_in(alloc, sections, address, subprogram.copied())?;
                 Ok(Found {
                     subprogram: Some(subprogram),
                     inlined,
@@ -97,75 +94,6 @@ impl<'r, 'a> Found<'r, 'a> {
                 inlined: Items::new(alloc),
             }),
         }
-    }
-}
-
-/// The subprograms of units. Contracts see the units.
-#[derive(Drop)]
-pub struct Subprograms<'r, 'a> {
-    units: &'r [UnitAnswer<'a>],
-    // Those that are not removed.
-    kept: Items<Standing<'r, 'a>>,
-    holders: Holders,
-}
-
-impl<'r, 'a> Model for Subprograms<'r, 'a> {
-    ghost use Rattle.std.specs.Prelude.{◌≡◌, List};
-    ghost use Rattle.dwarf_info.specs.declared.entry.UnitAnswer.{UnitAnswer};
-    ghost use Rattle.dwarf_scopes.specs.inner.Picks.{kept as kept_of_all};
-    ghost use Rattle.dwarf_scopes.specs.inner.Holding.{AreHolders};
-
-    ghost Value = { List UnitAnswer };
-
-    ghost view = { λ s. s.units.now };
-
-    ghost invariant = { λ s. (s.kept ≡ kept_of_all s.units.now) × AreHolders s.kept s.holders };
-}
-
-impl<'r, 'a> Subprograms<'r, 'a> {
-    /// The subprograms of these units.
-    pub fn of(alloc: Global, units: &'r [UnitAnswer<'a>]) -> Result<Self, NoMemory>
-        ensures { IfOk result (λ s. s ≡ units.now) }
-    {
-        let kept = all_kept(alloc, units)?;
-        let holders = Holders::of(alloc, kept.as_slice())?;
-        Ok(Subprograms {
-            units,
-            kept,
-            holders,
-        })
-    }
-
-    /// The first one that holds an address.
-    #[tactic(auto, using(crate::proofs::Filters::found_kept))]
-    fn at(
-        &self,
-        alloc: Global,
-        sections: &Sections5<'a>,
-        address: u32,
-    ) -> Result<Option<Standing<'r, 'a>>, NoMemory>
-        ensures { IfOk result (λ x. x ≡ scopes.subprogram_at sections.now self.now address) }
-    {
-        self.holders
-            .first(alloc, sections, self.kept.as_slice(), address)
-    }
-
-    /// What stands at an address.
-    #[tactic(auto, unfolding(crate::specs::Scopes::scopes_at, crate::specs::Scopes::inlined_at))]
-    pub fn find(
-        &self,
-        alloc: Global,
-        sections: &Sections5<'a>,
-        address: u32,
-    ) -> Result<Found<'r, 'a>, NoMemory>
-        ensures subprogram { IfOk result (λ x. x.subprogram
-            ≡ scopes.subprogram_at sections.now self.now address) }
-        ensures inlined { IfOk result (λ x. x.inlined
-            ≡ scopes.inlined_at sections.now self.now address) }
-    {
-        let subprogram = self.at(alloc, sections, address)?;
-        let found = Found::of(alloc, sections, address, subprogram)?;
-        Ok(found)
     }
 }
 
@@ -254,7 +182,7 @@ pub fn subprogram_at<'r, 'a>(
     Ok(None)
 }
 
-/// What stands at an address. Where many are looked up, `Subprograms` finds it faster.
+/// What stands at an address. Where many are looked up, `SubprogramTable` finds it faster.
 #[tactic(auto, unfolding(crate::specs::Scopes::scopes_at, crate::specs::Scopes::inlined_at))]
 pub fn found_at<'r, 'a>(
     alloc: Global,

@@ -241,8 +241,24 @@ fn variables_in<'r, 'a>(
     Ok(variables)
 }
 
-/// The variables that are visible at an address, those of outer scopes first. It takes time linear
-/// in what stands in the subprogram.
+/// The variables that are visible at an address, by the subprogram there. It takes time linear in what
+/// stands in it.
+pub fn variables_from<'r, 'a>(
+    alloc: Global,
+    sections: &Sections5<'a>,
+    address: u32,
+    subprogram: &Option<Standing<'r, 'a>>,
+) -> Result<Items<Standing<'r, 'a>>, NoMemory>
+    ensures { IfOk result (λ xs. xs ≡ flat_map scopes.variables_of
+        (scopes.scopes_from sections.now address subprogram.now)) }
+{
+    match subprogram {
+        Some(subprogram) => variables_in(alloc, sections, address, subprogram),
+        None => Ok(Items::new(alloc)),
+    }
+}
+
+/// The variables that are visible at an address, those of outer scopes first.
 #[tactic(auto, unfolding(crate::specs::Scopes::variables_at, crate::specs::Scopes::scopes_at))]
 pub fn variables_at<'r, 'a>(
     alloc: Global,
@@ -252,8 +268,6 @@ pub fn variables_at<'r, 'a>(
 ) -> Result<Items<Standing<'r, 'a>>, NoMemory>
     ensures { IfOk result (λ xs. xs ≡ scopes.variables_at sections.now units.now address) }
 {
-    match subprogram_at(alloc, sections, units, address)? {
-        Some(subprogram) => variables_in(alloc, sections, address, &subprogram),
-        None => Ok(Items::new(alloc)),
-    }
+    let subprogram = subprogram_at(alloc, sections, units, address)?;
+    variables_from(alloc, sections, address, &subprogram)
 }

@@ -4,7 +4,7 @@ use Rattle.dwarf_info.specs.declared.entry.UnitAnswer.{UnitAnswer}
 use Rattle.dwarf_info.specs.Sections.{SectionBytes5}
 use Rattle.dwarf_entries.specs.Standing.{Standing, of_unit}
 use Rattle.dwarf_entries.specs.Tags.{tag_subprogram, tag_lexical_block, tag_inlined_subroutine}
-use Rattle.dwarf_scopes.specs.Scopes.{declares, is_removed, scopes_from}
+use Rattle.dwarf_scopes.specs.Scopes.{declares, is_removed, is_scope_at, scopes_from}
 
 -- a formal parameter or a variable that is a child of an entry of that depth
 abbrev pub is_variable_of : ℕ → Standing → Bool
@@ -16,6 +16,10 @@ is_scope x = x.entry.tag == tag_lexical_block || x.entry.tag == tag_inlined_subr
 
 abbrev pub is_inlined : Standing → Bool
 is_inlined x = x.entry.tag == tag_inlined_subroutine
+
+-- a scope that holds the address; lexical blocks are wanted too, or not
+abbrev pub is_wanted : Bool → SectionBytes5 → ℕ → Standing → Bool
+is_wanted blocks s address x = (blocks || is_inlined x) && is_scope_at s address x
 
 -- the inlined subroutines in a subprogram that hold an address, the innermost first
 abbrev pub inlined_from : SectionBytes5 → ℕ → Option Standing → List Standing

@@ -1,10 +1,10 @@
-use Rattle.std.proofs.Common.{◌≡◌, ◌≤◌, ◌++◌, ◌∷◌, [], ℕ, List, length, Option, Some, None, Ok, Err, refl, sym, ap, subst, ◌∙◌, arith}
+use Rattle.std.proofs.Common.{◌≡◌, ◌≤◌, ◌++◌, ◌∷◌, [], ℕ, List, length, Option, Ok, sym, ap, subst, ◌∙◌, arith}
 use Rattle.wasm_bytes.specs.Place.{Place}
 use Rattle.dwarf_info.proofs.RowLaws.{place_is}
 use Rattle.dwarf_loc.specs.declared.entry.ListEntry.{ListEntry}
 use Rattle.dwarf_scopes.specs.declared.known.ListPlace.{ListPlace}
 use Rattle.dwarf_scopes.specs.declared.known.PassedEntry.{PassedEntry}
-use Rattle.dwarf_scopes.specs.inner.Passing.{IsEntry, Leads, place_behind}
+use Rattle.dwarf_scopes.specs.inner.Passing.{IsEntry, Leads}
 use Rattle.dwarf_scopes.proofs.KnownLaws.{is_entry, leads_on, said_end, said_none}
 use Rattle.dwarf_scopes.proofs.known.read_entries.Goals as goal
 

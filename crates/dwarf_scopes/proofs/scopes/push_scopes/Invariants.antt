@@ -1,12 +1,12 @@
 use Rattle.std.proofs.Common.{◌≡◌, ◌++◌, length}
 use Rattle.std.specs.Prelude.{filter}
 use Rattle.dwarf_entries.specs.Standing.{standing_in}
-use Rattle.dwarf_scopes.specs.Scopes.{is_scope_at}
+use Rattle.dwarf_scopes.specs.inner.Picks.{is_wanted}
 use Rattle.dwarf_scopes.specs.calls.Knowing.{AreRight}
 use Rattle.dwarf_scopes.proofs.scopes.push_scopes.Given as goal
 
 abbrev pub invariant-entries : goal.invariant-entries
-invariant-entries l = AreRight l.pick.sections.now l.pick.address l.lists × (l.initial.found ++ filter (is_scope_at l.pick.sections.now l.pick.address) (standing_in l.unit l.entries) ≡ l.found ++ filter (is_scope_at l.pick.sections.now l.pick.address) (standing_in l.unit l.left))
+invariant-entries l = AreRight l.pick.sections.now l.pick.address l.lists × (l.initial.found ++ filter (is_wanted l.blocks l.pick.sections.now l.pick.address) (standing_in l.unit l.entries) ≡ l.found ++ filter (is_wanted l.blocks l.pick.sections.now l.pick.address) (standing_in l.unit l.left))
 
 abbrev pub decreases-entries : goal.decreases-entries
 decreases-entries l = length l.left
