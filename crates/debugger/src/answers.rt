@@ -1,10 +1,12 @@
 //! The texts that commands print.
 
 ghost use Rattle.std.specs.Prelude.{◌≡◌, ◌++◌, Some, IfOk, OnOk, option_copied, slice_get};
+ghost use Rattle.dwarf_types.specs.calls.Known.{AreKnown};
 ghost use Rattle.debugger.specs.Texts as texts;
 ghost use Rattle.debugger.specs.Variables as variables;
 ghost use Rattle.debugger.specs.Session as definitions;
 
+use crate::known_types::KnownTypes;
 use crate::view::{Chosen, looks_of, view_of};
 use crate::{
     Command, Information, Subject, push_backtrace, push_frame_at, push_globals, push_locals,
@@ -59,16 +61,20 @@ fn push_frame_variables(
     out: &mut Text,
     alloc: Global,
     information: &Information<'_>,
+    types: &KnownTypes,
     subject: &Subject<'_, '_, '_, '_>,
     chosen: Chosen,
     frame: &Frame,
 ) -> Result<(), NoMemory>
-    requires { information.now ≡ subject.now.information }
+    requires information { information.now ≡ subject.now.information }
+    requires types { AreKnown subject.now.information.units types.now.arrays }
     ensures { OnOk result (out.new ≡ out.old ++ variables.variables_text subject.now
         (variables.left_in chosen.index chosen.operands) frame.now) }
 {
     let view = view_of(subject, frame);
-    let looks = looks_of(alloc, information, subject, frame, chosen, &view)?;
+    let structures = types.structures(alloc, information.units())?;
+    let typed = types.typed(information.units(), &structures);
+    let looks = looks_of(alloc, information, subject, frame, chosen, &view, typed)?;
     push_variables(out, alloc, &looks)
 }
 
@@ -77,16 +83,18 @@ fn push_chosen_variables(
     out: &mut Text,
     alloc: Global,
     information: &Information<'_>,
+    types: &KnownTypes,
     subject: &Subject<'_, '_, '_, '_>,
     chosen: Chosen,
 ) -> Result<(), NoMemory>
-    requires { information.now ≡ subject.now.information }
+    requires information { information.now ≡ subject.now.information }
+    requires types { AreKnown subject.now.information.units types.now.arrays }
     ensures { OnOk result (out.new ≡ out.old ++ definitions.of_chosen subject.now chosen.index
         (variables.variables_text subject.now
         (variables.left_in chosen.index chosen.operands))) }
 {
     match frame_at(subject, chosen.index) {
-        Some(frame) => push_frame_variables(out, alloc, information, subject, chosen, frame),
+        Some(frame) => push_frame_variables(out, alloc, information, types, subject, chosen, frame),
         None => push_no_frame(out, 0),
     }
 }
@@ -96,18 +104,22 @@ fn push_chosen_variables(
 fn path_line(
     alloc: Global,
     information: &Information<'_>,
+    types: &KnownTypes,
     subject: &Subject<'_, '_, '_, '_>,
     chosen: Chosen,
     frame: &Frame,
     word: &str,
     path: &Path<'_>,
 ) -> Answer
-    requires { information.now ≡ subject.now.information }
+    requires information { information.now ≡ subject.now.information }
+    requires types { AreKnown subject.now.information.units types.now.arrays }
     ensures { IfOk result (λ text. text ≡ variables.path_text subject.now
         (variables.left_in chosen.index chosen.operands) word.now path.now frame.now) }
 {
     let view = view_of(subject, frame);
-    let looks = looks_of(alloc, information, subject, frame, chosen, &view)?;
+    let structures = types.structures(alloc, information.units())?;
+    let typed = types.typed(information.units(), &structures);
+    let looks = looks_of(alloc, information, subject, frame, chosen, &view, typed)?;
     let mut out = Text::new(alloc);
     push_path(&mut out, alloc, &looks, word, path)?;
     Ok(out)
@@ -129,11 +141,31 @@ fn backtrace_by(
     Ok(out)
 }
 
+/// For so few frames to gather the subprograms takes longer than to go through the entries for each.
+const FEW: usize = 4;
+
+/// Gathers the subprograms where that pays.
+fn gather_where(
+    alloc: Global,
+    information: &mut Information<'_>,
+    pays: bool,
+) -> Result<(), NoMemory>
+    ensures { information.new ≡ information.old }
+{
+    if pays {
+        information.gather(alloc)
+    } else {
+        Ok(())
+    }
+}
+
 fn backtrace(alloc: Global, subject: &mut Subject<'_, '_, '_, '_>) -> Answer
     ensures text { IfOk result (λ text. text ≡ texts.backtrace_text subject.old) }
     ensures same { subject.new ≡ subject.old }
 {
-    let information = subject.take_information(alloc)?;
+    let pays = subject.is_read() || subject.frames().len() > FEW;
+    let mut information = subject.take_information(alloc)?;
+    gather_where(alloc, &mut information, pays)?;
     let answer = backtrace_by(alloc, &information, subject);
     subject.keep_information(information);
     answer
@@ -157,7 +189,9 @@ fn one_frame(alloc: Global, subject: &mut Subject<'_, '_, '_, '_>, number: u64) 
     ensures text { IfOk result (λ text. text ≡ texts.frame_text_at subject.old number) }
     ensures same { subject.new ≡ subject.old }
 {
-    let information = subject.take_information(alloc)?;
+    let pays = subject.is_read();
+    let mut information = subject.take_information(alloc)?;
+    gather_where(alloc, &mut information, pays)?;
     let answer = one_frame_by(alloc, &information, subject, number);
     subject.keep_information(information);
     answer
@@ -201,16 +235,18 @@ fn globals(alloc: Global, subject: &Subject<'_, '_, '_, '_>) -> Answer
 fn variables_by(
     alloc: Global,
     information: &Information<'_>,
+    types: &KnownTypes,
     subject: &Subject<'_, '_, '_, '_>,
     chosen: Chosen,
 ) -> Answer
-    requires { information.now ≡ subject.now.information }
+    requires information { information.now ≡ subject.now.information }
+    requires types { AreKnown subject.now.information.units types.now.arrays }
     ensures { IfOk result (λ text. text
         ≡ definitions.chosen_variables subject.now chosen.index chosen.operands) }
 {
     let mut out = Text::new(alloc);
     push_unread(&mut out, information, subject)?;
-    push_chosen_variables(&mut out, alloc, information, subject, chosen)?;
+    push_chosen_variables(&mut out, alloc, information, types, subject, chosen)?;
     Ok(out)
 }
 
@@ -219,8 +255,11 @@ fn variables(alloc: Global, subject: &mut Subject<'_, '_, '_, '_>, chosen: Chose
         ≡ definitions.chosen_variables subject.old chosen.index chosen.operands) }
     ensures same { subject.new ≡ subject.old }
 {
-    let information = subject.take_information(alloc)?;
-    let answer = variables_by(alloc, &information, subject, chosen);
+    let mut information = subject.take_information(alloc)?;
+    information.gather(alloc)?;
+    let types = subject.take_types(alloc, &information)?;
+    let answer = variables_by(alloc, &information, &types, subject, chosen);
+    subject.keep_types(types);
     subject.keep_information(information);
     answer
 }
@@ -228,17 +267,28 @@ fn variables(alloc: Global, subject: &mut Subject<'_, '_, '_, '_>, chosen: Chose
 fn at_path_by(
     alloc: Global,
     information: &Information<'_>,
+    types: &KnownTypes,
     subject: &Subject<'_, '_, '_, '_>,
     chosen: Chosen,
     word: &str,
     path: &Path<'_>,
 ) -> Answer
-    requires { information.now ≡ subject.now.information }
+    requires information { information.now ≡ subject.now.information }
+    requires types { AreKnown subject.now.information.units types.now.arrays }
     ensures { IfOk result (λ text. text ≡ definitions.chosen_path subject.now chosen.index
         chosen.operands word.now (Some path.now)) }
 {
     match frame_at(subject, chosen.index) {
-        Some(frame) => path_line(alloc, information, subject, chosen, frame, word, path),
+        Some(frame) => path_line(
+            alloc,
+            information,
+            types,
+            subject,
+            chosen,
+            frame,
+            word,
+            path,
+        ),
         None => no_frame(alloc),
     }
 }
@@ -254,8 +304,11 @@ fn at_path(
         chosen.operands word.now (Some path.now)) }
     ensures same { subject.new ≡ subject.old }
 {
-    let information = subject.take_information(alloc)?;
-    let answer = at_path_by(alloc, &information, subject, chosen, word, path);
+    let mut information = subject.take_information(alloc)?;
+    information.gather(alloc)?;
+    let types = subject.take_types(alloc, &information)?;
+    let answer = at_path_by(alloc, &information, &types, subject, chosen, word, path);
+    subject.keep_types(types);
     subject.keep_information(information);
     answer
 }

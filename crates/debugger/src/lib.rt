@@ -6,6 +6,7 @@ mod command;
 mod counts;
 mod examined;
 mod globals;
+mod known_types;
 mod listing;
 mod memory;
 mod paths;

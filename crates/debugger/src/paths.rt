@@ -44,7 +44,7 @@ fn push_shown(out: &mut Text, name: &[u8], word: &str, shown: &Shown) -> Result<
 pub fn push_path(
     out: &mut Text,
     alloc: Global,
-    looks: &VariableFrame<'_, '_, '_, '_, '_>,
+    looks: &VariableFrame<'_, '_, '_, '_, '_, '_>,
     word: &str,
     path: &Path<'_>,
 ) -> Result<(), NoMemory>

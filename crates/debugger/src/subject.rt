@@ -6,9 +6,11 @@ ghost use Rattle.wasm_syntax.specs.Valid.{There};
 ghost use Rattle.dwarf_info.specs.Sections.{greatest_section};
 ghost use Rattle.dump_match.specs.States.{StateOperandCount};
 ghost use Rattle.debugger.specs.Recorded as recorded;
+ghost use Rattle.dwarf_types.specs.calls.Known.{AreKnown};
 ghost use Rattle.debug_frames.specs.Information.{information};
 ghost use Rattle.debugger.specs.Subject.{Spells, subject_on};
 
+use crate::known_types::KnownTypes;
 use crate::{recorded_globals, recorded_memory};
 use causes::NoMemory;
 use debug_frames::Information;
@@ -28,6 +30,8 @@ use wasm_validate::Validated;
 pub struct Subject<'a, 'm, 'd, 'b> {
     bytes: &'a [u8],
     known: Option<Information<'a>>,
+    // Of its units.
+    types: Option<KnownTypes>,
     matched: StateMatched<'m, 'd, 'b>,
     globals: Items<Seen>,
     memory: Option<Memory>,
@@ -35,6 +39,7 @@ pub struct Subject<'a, 'm, 'd, 'b> {
 
 impl<'a, 'm, 'd, 'b> Model for Subject<'a, 'm, 'd, 'b> {
     ghost use Rattle.std.specs.Prelude.{◌≡◌, IfSome, option_map};
+    ghost use Rattle.dwarf_types.specs.calls.Known.{AreKnown};
     ghost use Rattle.debug_frames.specs.Information.{information};
     ghost use Rattle.debugger.specs.Recorded.{recorded_globals, recorded_memory};
     ghost use Rattle.debugger.specs.Subject.{Subject, Spells, subject_on};
@@ -46,6 +51,8 @@ impl<'a, 'm, 'd, 'b> Model for Subject<'a, 'm, 'd, 'b> {
 
     ghost invariant = { λ s. Spells s.bytes.now s.matched.module_
         × IfSome s.known (λ x. x ≡ information s.bytes.now s.matched.module_.customs)
+        × IfSome s.types (λ t.
+        AreKnown (information s.bytes.now s.matched.module_.customs).units t.arrays)
         × (s.globals ≡ recorded_globals s.matched.dump)
         × (option_map (λ m. m.memory) s.memory ≡ recorded_memory s.matched.dump) };
 }
@@ -96,6 +103,7 @@ impl<'a, 'm, 'd, 'b> Subject<'a, 'm, 'd, 'b> {
         Ok(Subject {
             bytes,
             known,
+            types: None,
             matched,
             globals,
             memory,
@@ -122,6 +130,38 @@ impl<'a, 'm, 'd, 'b> Subject<'a, 'm, 'd, 'b> {
         ensures { self.new ≡ self.old }
     {
         self.known = Some(information);
+    }
+
+    /// Whether it was read before what the bytes of the module say.
+    pub(crate) fn is_read(&self) -> bool {
+        self.known.is_some()
+    }
+
+    /// What is known of the types of the module, which is taken out where it was found before.
+    pub(crate) fn take_types(
+        &mut self,
+        alloc: Global,
+        information: &Information<'a>,
+    ) -> Result<KnownTypes, NoMemory>
+        requires { information.now ≡ self.old.information }
+        ensures value { IfOk result (λ t. AreKnown self.old.information.units t.arrays) }
+        ensures same { self.new ≡ self.old }
+    {
+        match self.types.take() {
+            Some(types) => Ok(types),
+            None => {
+                let types = KnownTypes::of(alloc, information.units())?;
+                Ok(types)
+            }
+        }
+    }
+
+    /// Keeps what is known of the types of the module.
+    pub(crate) fn keep_types(&mut self, types: KnownTypes)
+        requires { AreKnown self.old.information.units types.arrays }
+        ensures { self.new ≡ self.old }
+    {
+        self.types = Some(types);
     }
 
     /// What the bytes of the module say, for another subject, where it was read.

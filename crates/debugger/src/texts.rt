@@ -53,7 +53,7 @@ fn push_frames(
         ≡ out.old ++ numbered (frame_text subject.now.information subject.now.module_) 0
         frames.now) }
 {
-    let mut symbolizer = Symbolizer::new(alloc, information, frames.len())?;
+    let mut symbolizer = Symbolizer::new(alloc, information);
     for (i, frame) in frames.iter().enumerate() {
         push_one(out, alloc, &mut symbolizer, subject, i as u64, frame)?;
     }
@@ -101,7 +101,7 @@ pub fn push_frame_at(
 {
     match subject.frames().get(number as usize) {
         Some(frame) => {
-            let mut symbolizer = Symbolizer::new(alloc, information, 1)?;
+            let mut symbolizer = Symbolizer::new(alloc, information);
             push_one(out, alloc, &mut symbolizer, subject, number, frame)
         }
         None => push_no_frame(out, number),

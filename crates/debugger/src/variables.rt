@@ -6,7 +6,7 @@ ghost use Rattle.debugger.specs.Variables as definitions;
 
 use causes::NoMemory;
 use dwarf_entries::{Standing, name_or_empty};
-use dwarf_scopes::variables_at;
+use dwarf_scopes::variables_from;
 use pm_text::Text;
 use std::alloc::Global;
 use var_eval::{KnownSources, VariableFrame, no_sources, push_variable};
@@ -16,7 +16,7 @@ use var_eval::{KnownSources, VariableFrame, no_sources, push_variable};
 fn push_line<'r, 'a>(
     out: &mut Text,
     alloc: Global,
-    looks: &VariableFrame<'_, 'r, '_, '_, 'a>,
+    looks: &VariableFrame<'_, 'r, '_, '_, '_, 'a>,
     variable: &Standing<'r, 'a>,
     known: &mut KnownSources,
 ) -> Result<(), NoMemory>
@@ -35,7 +35,7 @@ fn push_line<'r, 'a>(
 fn push_lines<'r, 'a>(
     out: &mut Text,
     alloc: Global,
-    looks: &VariableFrame<'_, 'r, '_, '_, 'a>,
+    looks: &VariableFrame<'_, 'r, '_, '_, '_, 'a>,
     variables: &[Standing<'r, 'a>],
 ) -> Result<(), NoMemory>
     ensures { OnOk result (out.new
@@ -53,7 +53,7 @@ fn push_lines<'r, 'a>(
 fn push_lines_or_none<'r, 'a>(
     out: &mut Text,
     alloc: Global,
-    looks: &VariableFrame<'_, 'r, '_, '_, 'a>,
+    looks: &VariableFrame<'_, 'r, '_, '_, '_, 'a>,
     variables: &[Standing<'r, 'a>],
 ) -> Result<(), NoMemory>
     ensures { OnOk result (out.new ≡ out.old ++ definitions.lines_or_none looks.now variables.now) }
@@ -65,14 +65,15 @@ fn push_lines_or_none<'r, 'a>(
 }
 
 /// Adds a line for each variable that is visible where a frame stands, or that there are none.
+#[tactic(auto, unfolding(dwarf_scopes::specs::Scopes::variables_at, dwarf_scopes::specs::Scopes::scopes_at))]
 pub fn push_variables(
     out: &mut Text,
     alloc: Global,
-    looks: &VariableFrame<'_, '_, '_, '_, '_>,
+    looks: &VariableFrame<'_, '_, '_, '_, '_, '_>,
 ) -> Result<(), NoMemory>
     ensures { OnOk result (out.new ≡ out.old ++ definitions.all_variables looks.now) }
 {
-    let units = looks.units();
-    let variables = variables_at(alloc, looks.sections(), units.as_slice(), looks.address())?;
+    let subprogram = looks.subprogram();
+    let variables = variables_from(alloc, looks.sections(), looks.address(), subprogram)?;
     push_lines_or_none(out, alloc, looks, variables.as_slice())
 }

@@ -8,6 +8,7 @@ use causes::NoMemory;
 use debug_frames::{Information, address_of};
 use dump_format::Frame;
 use dwarf_expr::FrameView;
+use dwarf_types::TypedUnits;
 use std::alloc::Global;
 use var_eval::VariableFrame;
 
@@ -45,25 +46,29 @@ impl Chosen {
 }
 
 /// The chosen frame as its variables see it, with what is recorded of it.
-pub fn looks_of<'s, 'w, 'v, 'a>(
+pub fn looks_of<'s, 'k, 'w, 'v, 'a>(
     alloc: Global,
     information: &'s Information<'a>,
     subject: &Subject<'_, '_, '_, '_>,
     frame: &Frame,
     chosen: Chosen,
     view: &'w FrameView<'v>,
-) -> Result<VariableFrame<'s, 's, 'w, 'v, 'a>, NoMemory>
+    types: TypedUnits<'s, 'k, 'a>,
+) -> Result<VariableFrame<'s, 's, 'k, 'w, 'v, 'a>, NoMemory>
     requires information { information.now ≡ subject.now.information }
+    requires types { types ≡ information.now.units }
     requires view { view.now ≡ definitions.view_of subject.now frame.now }
     ensures { IfOk result (λ looks. looks ≡ definitions.looks_of subject.now
         (definitions.left_in chosen.index chosen.operands) frame.now) }
 {
     let address = address_of(subject.parts(), frame);
+    let subprogram = information.subprogram_at(alloc, address)?;
     VariableFrame::new(
         alloc,
         information.sections(),
-        information.units(),
+        types,
         address,
+        subprogram,
         view,
         chosen.left(),
     )

@@ -1,13 +1,14 @@
 //! The variable that a name means at an address (DWARF 4 sections 3.3, 3.4 and 4.1).
 
 ghost use Rattle.std.specs.Prelude.{◌≡◌, nat_le, find, reverse, IfOk};
+ghost use Rattle.dwarf_scopes.specs.Scopes.{subprogram_at};
 ghost use Rattle.var_eval.specs.Chosen as definitions;
 
 use causes::NoMemory;
 use dwarf_entries::tags::VARIABLE;
 use dwarf_entries::{Pick, Standing, first_picked, name_or_empty};
 use dwarf_info::{Entry, Sections5, Unit, UnitAnswer, Units};
-use dwarf_scopes::{subprogram_at, variables_at};
+use dwarf_scopes::{subprogram_at, variables_from};
 use pm_text::Items;
 use std::alloc::Global;
 
@@ -166,6 +167,31 @@ fn beyond_scopes<'r, 'a>(
     }
 }
 
+/// The last visible variable of a name, or else one that belongs to no scope, by the subprogram at the
+/// address.
+#[tactic(auto, unfolding(dwarf_scopes::specs::Scopes::variables_at, dwarf_scopes::specs::Scopes::scopes_at))]
+pub fn chosen_by<'r, 'a>(
+    alloc: Global,
+    sections: &Sections5<'a>,
+    units: &'r Units<'a>,
+    address: u32,
+    subprogram: &Option<Standing<'r, 'a>>,
+    name: &[u8],
+) -> Result<Option<Standing<'r, 'a>>, NoMemory>
+    requires { subprogram.now ≡ subprogram_at sections.now units.now address }
+    ensures { IfOk result (λ x. x
+        ≡ definitions.chosen_in sections.now units.now address name.now subprogram.now) }
+{
+    let Some(here) = subprogram else {
+        return Ok(None);
+    };
+    let visible = variables_from(alloc, sections, address, subprogram)?;
+    match last_named(units, name, visible) {
+        Some(last) => Ok(Some(last)),
+        None => Ok(beyond_scopes(units, name, here.unit())),
+    }
+}
+
 /// The last visible variable of a name, or else one that belongs to no scope.
 #[tactic(auto, unfolding(crate::specs::Chosen::chosen))]
 pub fn chosen<'r, 'a>(
@@ -177,13 +203,6 @@ pub fn chosen<'r, 'a>(
 ) -> Result<Option<Standing<'r, 'a>>, NoMemory>
     ensures { IfOk result (λ x. x ≡ definitions.chosen sections.now units.now address name.now) }
 {
-    let found = subprogram_at(alloc, sections, units.as_slice(), address)?;
-    let Some(subprogram) = found else {
-        return Ok(None);
-    };
-    let visible = variables_at(alloc, sections, units.as_slice(), address)?;
-    match last_named(units, name, visible) {
-        Some(last) => Ok(Some(last)),
-        None => Ok(beyond_scopes(units, name, subprogram.unit())),
-    }
+    let subprogram = subprogram_at(alloc, sections, units.as_slice(), address)?;
+    chosen_by(alloc, sections, units, address, &subprogram, name)
 }

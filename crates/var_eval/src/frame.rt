@@ -1,67 +1,69 @@
 //! Frames as variables see them.
 
 ghost use Rattle.std.specs.Prelude.{◌≡◌, IfOk};
+ghost use Rattle.dwarf_scopes.specs.Scopes.{subprogram_at};
 ghost use Rattle.var_eval.specs.Frames.{frame_of};
 ghost use Rattle.var_eval.specs.Locations as locations;
 
 use crate::locations::base_in;
 use causes::NoMemory;
+use dwarf_entries::Standing;
 use dwarf_expr::{Base, FrameView};
 use dwarf_info::{Sections5, Units};
-use dwarf_scopes::subprogram_at;
-use dwarf_types::{Arrays, TypedUnits};
+use dwarf_types::TypedUnits;
 use std::alloc::Global;
 use std::marker::Model;
 
 /// A frame as its variables see it: what the sections of its module say, the address of the code
 /// where it stands, what is recorded of it, and how many operands a call under way there has left.
 #[derive(Drop)]
-pub struct VariableFrame<'s, 'u, 'w, 'v, 'a> {
+pub struct VariableFrame<'s, 'u, 'k, 'w, 'v, 'a> {
     sections: &'s Sections5<'a>,
-    units: &'u Units<'a>,
-    // Known once for all variables.
-    arrays: Arrays,
+    types: TypedUnits<'u, 'k, 'a>,
     address: u32,
+    // The one at the address.
+    subprogram: Option<Standing<'u, 'a>>,
     view: &'w FrameView<'v>,
     left: Option<u32>,
     base: Base,
 }
 
-impl<'s, 'u, 'w, 'v, 'a> Model for VariableFrame<'s, 'u, 'w, 'v, 'a> {
+impl<'s, 'u, 'k, 'w, 'v, 'a> Model for VariableFrame<'s, 'u, 'k, 'w, 'v, 'a> {
     ghost use Rattle.std.specs.Prelude.{◌≡◌};
     ghost use Rattle.var_eval.specs.Frames.{Frame, frame_of};
     ghost use Rattle.var_eval.specs.Locations.{base_of};
-    ghost use Rattle.dwarf_types.specs.calls.Known.{AreKnown};
+    ghost use Rattle.dwarf_scopes.specs.Scopes.{subprogram_at};
 
     ghost Value = { Frame };
 
-    ghost view = { λ f. frame_of f.sections.now f.units.now f.address f.view.now f.left };
+    ghost view = { λ f. frame_of f.sections.now f.types f.address f.view.now f.left };
 
     ghost invariant = { λ f. (f.base
-        ≡ base_of (frame_of f.sections.now f.units.now f.address f.view.now f.left))
-        × AreKnown f.units.now f.arrays };
+        ≡ base_of (frame_of f.sections.now f.types f.address f.view.now f.left))
+        × (f.subprogram ≡ subprogram_at f.sections.now f.types f.address) };
 }
 
-impl<'s, 'u, 'w, 'v, 'a> VariableFrame<'s, 'u, 'w, 'v, 'a> {
+impl<'s, 'u, 'k, 'w, 'v, 'a> VariableFrame<'s, 'u, 'k, 'w, 'v, 'a> {
+    /// By the subprogram at the address.
     #[tactic(auto, unfolding(crate::specs::Locations::base_of))]
     pub fn new(
         alloc: Global,
         sections: &'s Sections5<'a>,
-        units: &'u Units<'a>,
+        types: TypedUnits<'u, 'k, 'a>,
         address: u32,
+        subprogram: Option<Standing<'u, 'a>>,
         view: &'w FrameView<'v>,
         left: Option<u32>,
     ) -> Result<Self, NoMemory>
-        ensures { IfOk result (λ f. f ≡ frame_of sections.now units.now address view.now left) }
+        requires { subprogram ≡ subprogram_at sections.now types address }
+        ensures { IfOk result (λ f. f ≡ frame_of sections.now types.entry address view.now left) }
     {
-        let subprogram = subprogram_at(alloc, sections, units.as_slice(), address)?;
         let base = base_in(alloc, sections, address, view, &subprogram)?;
-        let arrays = Arrays::of(alloc, units)?;
         Ok(VariableFrame {
             sections,
-            units,
-            arrays,
+            types,
             address,
+            subprogram,
             view,
             left,
             base,
@@ -77,14 +79,21 @@ impl<'s, 'u, 'w, 'v, 'a> VariableFrame<'s, 'u, 'w, 'v, 'a> {
     pub fn units(&self) -> &'u Units<'a>
         ensures { result.now ≡ self.now.units }
     {
-        self.units
+        self.types.units()
     }
 
     /// The units, with what is known of their types.
-    pub fn types<'f>(&'f self) -> TypedUnits<'u, 'f, 'a>
-        ensures { result ≡ self.now.units }
+    pub fn types(&self) -> &TypedUnits<'u, 'k, 'a>
+        ensures { result.now ≡ self.now.units }
     {
-        TypedUnits::new(self.units, &self.arrays)
+        &self.types
+    }
+
+    /// The subprogram at its address.
+    pub fn subprogram(&self) -> &Option<Standing<'u, 'a>>
+        ensures { result.now ≡ subprogram_at self.now.sections self.now.units self.now.address }
+    {
+        &self.subprogram
     }
 
     /// Of the code where it stands.

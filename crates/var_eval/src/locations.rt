@@ -213,7 +213,7 @@ fn is_gone(left: Option<u32>, expr: &[u8]) -> bool
 }
 
 /// Where a variable comes from in a frame by its expression.
-fn source_in(frame: &VariableFrame<'_, '_, '_, '_, '_>, expr: &[u8]) -> Source
+fn source_in(frame: &VariableFrame<'_, '_, '_, '_, '_, '_>, expr: &[u8]) -> Source
     requires { length expr.now < 2 ^ 32 }
     ensures { result ≡ locations.source_in frame.now expr.now }
 {
@@ -226,7 +226,7 @@ fn source_in(frame: &VariableFrame<'_, '_, '_, '_, '_>, expr: &[u8]) -> Source
 /// Where a variable of a unit comes from in a frame by its expression.
 fn source_by<'a>(
     alloc: Global,
-    frame: &VariableFrame<'_, '_, '_, '_, 'a>,
+    frame: &VariableFrame<'_, '_, '_, '_, '_, 'a>,
     unit: &Unit<'a>,
     expr: &[u8],
 ) -> Result<Source, NoMemory>
@@ -245,7 +245,7 @@ fn source_by<'a>(
 #[tactic(auto, unfolding(crate::specs::Locations::variable_source))]
 pub fn source_of<'r, 'a>(
     alloc: Global,
-    frame: &VariableFrame<'_, '_, '_, '_, 'a>,
+    frame: &VariableFrame<'_, '_, '_, '_, '_, 'a>,
     variable: &Standing<'r, 'a>,
     lists: &mut KnownLocations,
 ) -> Result<Source, NoMemory>

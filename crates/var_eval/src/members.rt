@@ -10,10 +10,10 @@ use crate::dead_end::DeadEnd;
 use crate::meeting::meet;
 use crate::part::Part;
 use crate::sourced_place::SourcedPlace;
-use dwarf_entries::{Standing, name_or_empty};
+use dwarf_entries::name_or_empty;
 use dwarf_expr::FrameView;
 use dwarf_info::{Entry, Units};
-use dwarf_types::{Class, TypedUnits, class_of, type_of};
+use dwarf_types::{Class, TypeStanding, TypedUnits, class_of, type_of};
 use std::alloc::Global;
 use var_values::{Bits, Item, Mark, constant_source, is_static, items_of, part_at};
 
@@ -117,7 +117,7 @@ fn member_of<'r, 'k, 'a>(
     units: &TypedUnits<'r, 'k, 'a>,
     view: &FrameView<'_>,
     name: &[u8],
-    standing: &Standing<'r, 'a>,
+    standing: &TypeStanding<'r, 'k, 'a>,
     spot: SourcedPlace,
     past: bool,
 ) -> Result<Part<'r, 'k, 'a>, DeadEnd>
@@ -147,15 +147,7 @@ pub fn member_step<'r, 'k, 'a>(
     let Part { typed, spot, past } = part;
     let met = meet(units, typed, spot.place().bits)?;
     match class_of(met.standing.entry().tag) {
-        Class::Members => member_of(
-            alloc,
-            units,
-            view,
-            name,
-            met.standing.standing(),
-            spot,
-            past,
-        ),
+        Class::Members => member_of(alloc, units, view, name, &met.standing, spot, past),
         _ => Err(DeadEnd::Marked(Mark::UnsupportedType)),
     }
 }

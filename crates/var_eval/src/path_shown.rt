@@ -5,7 +5,8 @@ ghost use Rattle.var_eval.specs.Shown.{shown_as};
 ghost use Rattle.var_eval.specs.PathShown as definitions;
 ghost use Rattle.var_eval.specs.inner.PathTold.{shown_by};
 
-use crate::{Part, Shown, VariableFrame, chosen, source_of, walk};
+use crate::choice::chosen_by;
+use crate::{Part, Shown, VariableFrame, source_of, walk};
 use causes::NoMemory;
 use dwarf_entries::Standing;
 use dwarf_expr::FrameView;
@@ -51,7 +52,7 @@ fn shown_part<'r, 'k, 'a>(
 #[tactic(auto, unfolding(crate::specs::PathShown::steps_text))]
 fn shown_behind<'r, 'a>(
     alloc: Global,
-    frame: &VariableFrame<'_, 'r, '_, '_, 'a>,
+    frame: &VariableFrame<'_, 'r, '_, '_, '_, 'a>,
     steps: &[Step<'_>],
     variable: &Standing<'r, 'a>,
 ) -> Result<Shown, NoMemory>
@@ -61,10 +62,10 @@ fn shown_behind<'r, 'a>(
     let units = frame.types();
     let mut lists = no_locations(alloc);
     let source = source_of(alloc, frame, variable, &mut lists)?;
-    let typed = type_of(&units, &variable.entry().attributes);
-    let reached = walk(alloc, &units, frame.view(), steps, typed, source)?;
+    let typed = type_of(units, &variable.entry().attributes);
+    let reached = walk(alloc, units, frame.view(), steps, typed, source)?;
     match reached {
-        Ok(part) => shown_part(alloc, &units, frame.view(), &part),
+        Ok(part) => shown_part(alloc, units, frame.view(), &part),
         Err(mark) => Ok(Shown::Marked(mark)),
     }
 }
@@ -76,20 +77,21 @@ fn shown_behind<'r, 'a>(
 ///
 /// Want of memory also where the steps lead 2^118 bytes from where a variable, or what a pointer
 /// leads to, begins: millions of steps do.
-#[tactic(auto, unfolding(crate::specs::PathShown::path_shown))]
+#[tactic(auto, unfolding(crate::specs::PathShown::path_shown, crate::specs::Chosen::chosen))]
 pub fn value_of<'r, 'a>(
     alloc: Global,
-    frame: &VariableFrame<'_, 'r, '_, '_, 'a>,
+    frame: &VariableFrame<'_, 'r, '_, '_, '_, 'a>,
     path: &Path<'_>,
 ) -> Result<Shown, NoMemory>
     ensures { IfOk result (λ shown. shown ≡ definitions.path_shown frame.now path.now) }
 {
     let name = path.name.as_slice();
-    let variable = chosen(
+    let variable = chosen_by(
         alloc,
         frame.sections(),
         frame.units(),
         frame.address(),
+        frame.subprogram(),
         name,
     )?;
     match variable {

@@ -109,7 +109,7 @@ fn keep(sources: &mut BTreeMap<u128, KnownSource>, found: KnownSource) -> Result
 /// Keeps where a variable comes from by a long expression. No more are kept than long expressions
 /// fit into the section of its lists side by side, so that those that overlap take no more memory.
 pub fn keep_source<'r, 'a>(
-    frame: &VariableFrame<'_, '_, '_, '_, 'a>,
+    frame: &VariableFrame<'_, '_, '_, '_, '_, 'a>,
     variable: &Standing<'r, 'a>,
     sources: &mut BTreeMap<u128, KnownSource>,
     found: KnownSource,
@@ -138,7 +138,7 @@ fn long_span(entry: Option<Option<Span>>) -> Option<Span>
 /// The place of the long expression that the list at an offset has for a variable.
 #[tactic(auto, using(crate::proofs::SourceLaws::long_source))]
 fn long_place_in<'r, 'a>(
-    frame: &VariableFrame<'_, '_, '_, '_, 'a>,
+    frame: &VariableFrame<'_, '_, '_, '_, '_, 'a>,
     variable: &Standing<'r, 'a>,
     at: u32,
     lists: &mut KnownLocations,
@@ -163,7 +163,7 @@ fn long_place_in<'r, 'a>(
 /// The place of the long expression that a list has for a variable.
 #[tactic(auto, unfolding(crate::specs::Locations::variable_source))]
 pub fn long_place<'r, 'a>(
-    frame: &VariableFrame<'_, '_, '_, '_, 'a>,
+    frame: &VariableFrame<'_, '_, '_, '_, '_, 'a>,
     variable: &Standing<'r, 'a>,
     lists: &mut KnownLocations,
 ) -> Result<Option<ExpressionPlace>, NoMemory>

@@ -25,7 +25,7 @@ use var_values::{Mark, Place, Source, push_value};
 fn push_from<'r, 'a>(
     alloc: Global,
     text: &mut Text,
-    frame: &VariableFrame<'_, 'r, '_, '_, 'a>,
+    frame: &VariableFrame<'_, 'r, '_, '_, '_, 'a>,
     variable: &Standing<'r, 'a>,
     source: &Source,
 ) -> Result<Option<Mark>, NoMemory>
@@ -34,20 +34,20 @@ fn push_from<'r, 'a>(
         text.new) }
 {
     let units = frame.types();
-    let typed = type_of(&units, &variable.entry().attributes);
+    let typed = type_of(units, &variable.entry().attributes);
     let place = Place {
         source,
         offset: 0,
         bits: None,
     };
-    push_value(alloc, text, &units, frame.view(), &typed, &place)
+    push_value(alloc, text, units, frame.view(), &typed, &place)
 }
 
 /// The same of a variable whose source the long expression at a place gives.
 fn push_long<'r, 'a>(
     alloc: Global,
     text: &mut Text,
-    frame: &VariableFrame<'_, 'r, '_, '_, 'a>,
+    frame: &VariableFrame<'_, 'r, '_, '_, '_, 'a>,
     variable: &Standing<'r, 'a>,
     place: ExpressionPlace,
     known: &mut KnownSources,
@@ -76,7 +76,7 @@ fn push_long<'r, 'a>(
 fn push_whole<'r, 'a>(
     alloc: Global,
     text: &mut Text,
-    frame: &VariableFrame<'_, 'r, '_, '_, 'a>,
+    frame: &VariableFrame<'_, 'r, '_, '_, '_, 'a>,
     variable: &Standing<'r, 'a>,
     known: &mut KnownSources,
 ) -> Result<Option<Mark>, NoMemory>
@@ -96,7 +96,7 @@ fn push_whole<'r, 'a>(
 pub fn push_variable<'r, 'a>(
     alloc: Global,
     text: &mut Text,
-    frame: &VariableFrame<'_, 'r, '_, '_, 'a>,
+    frame: &VariableFrame<'_, 'r, '_, '_, '_, 'a>,
     variable: &Standing<'r, 'a>,
     known: &mut KnownSources,
 ) -> Result<(), NoMemory>
@@ -114,7 +114,7 @@ pub fn push_variable<'r, 'a>(
 #[tactic(auto, using(crate::proofs::ShownLaws::marked_shown, crate::proofs::ShownLaws::text_shown))]
 fn shown_whole<'r, 'a>(
     alloc: Global,
-    frame: &VariableFrame<'_, 'r, '_, '_, 'a>,
+    frame: &VariableFrame<'_, 'r, '_, '_, '_, 'a>,
     variable: &Standing<'r, 'a>,
 ) -> Result<Shown, NoMemory>
     ensures { IfOk result (λ s. s ≡ shown.shown_as (shown.variable_text frame.now variable.now)) }
@@ -131,7 +131,7 @@ fn shown_whole<'r, 'a>(
 #[tactic(auto, unfolding(crate::specs::Shown::entry_shown))]
 pub fn value_at(
     alloc: Global,
-    frame: &VariableFrame<'_, '_, '_, '_, '_>,
+    frame: &VariableFrame<'_, '_, '_, '_, '_, '_>,
     entry: u32,
 ) -> Result<Shown, NoMemory>
     ensures { IfOk result (λ s. s ≡ shown.entry_shown frame.now entry) }
