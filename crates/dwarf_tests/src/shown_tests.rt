@@ -9,6 +9,8 @@ use causes::NoMemory;
 use dwarf_entries::standing_at;
 use dwarf_expr::FrameView;
 use dwarf_info::Units;
+use dwarf_scopes::subprogram_at;
+use dwarf_types::{Arrays, Structures, TypedUnits};
 use linear_memory::Memory;
 use pm_text::Text;
 use std::alloc::Global;
@@ -45,7 +47,7 @@ pub type Row = (Asked, &'static str);
 
 fn by_path(
     alloc: Global,
-    frame: &VariableFrame<'_, '_, '_, '_, '_>,
+    frame: &VariableFrame<'_, '_, '_, '_, '_, '_>,
     path: &str,
 ) -> Result<Shown, NoMemory> {
     match parse_path(alloc, path)? {
@@ -56,7 +58,7 @@ fn by_path(
 
 fn listed(
     alloc: Global,
-    frame: &VariableFrame<'_, '_, '_, '_, '_>,
+    frame: &VariableFrame<'_, '_, '_, '_, '_, '_>,
     at: u32,
 ) -> Result<Shown, NoMemory> {
     let Some(variable) = standing_at(frame.units(), at) else {
@@ -69,7 +71,7 @@ fn listed(
 
 fn shown(
     alloc: Global,
-    frame: &VariableFrame<'_, '_, '_, '_, '_>,
+    frame: &VariableFrame<'_, '_, '_, '_, '_, '_>,
     asked: Asked,
 ) -> Result<Shown, NoMemory> {
     match asked {
@@ -89,7 +91,11 @@ fn has_text(shown: &Result<Shown, NoMemory>, text: &str) -> bool {
     }
 }
 
-fn first_wrong_in(alloc: Global, frame: &VariableFrame<'_, '_, '_, '_, '_>, rows: &[Row]) -> usize {
+fn first_wrong_in(
+    alloc: Global,
+    frame: &VariableFrame<'_, '_, '_, '_, '_, '_>,
+    rows: &[Row],
+) -> usize {
     for (i, (asked, text)) in rows.iter().enumerate() {
         if !has_text(&shown(alloc, frame, *asked), text) {
             return i;
@@ -112,7 +118,26 @@ fn first_wrong_of(
         globals: scene.globals,
         memory: memory.as_ref(),
     };
-    match VariableFrame::new(alloc, &sections, units, scene.address, &view, scene.left) {
+    let Ok(arrays) = Arrays::of(alloc, units) else {
+        return 0;
+    };
+    let Ok(structures) = Structures::of(alloc, units) else {
+        return 0;
+    };
+    let types = TypedUnits::with_structures(units, &arrays, &structures);
+    let found = subprogram_at(alloc, &sections, units.as_slice(), scene.address);
+    let Ok(subprogram) = found else {
+        return 0;
+    };
+    match VariableFrame::new(
+        alloc,
+        &sections,
+        types,
+        scene.address,
+        subprogram,
+        &view,
+        scene.left,
+    ) {
         Ok(frame) => first_wrong_in(alloc, &frame, rows),
         Err(_) => 0,
     }

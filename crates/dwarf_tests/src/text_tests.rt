@@ -5,7 +5,7 @@ use crate::frames::{Origin, memory_with, source_of};
 use crate::reading::units4;
 use dwarf_expr::FrameView;
 use dwarf_info::Units;
-use dwarf_types::{Arrays, TypedUnits, type_at};
+use dwarf_types::{Arrays, Structures, TypedUnits, type_at};
 use linear_memory::Memory;
 use pm_text::Text;
 use std::alloc::Global;
@@ -29,9 +29,9 @@ const ABBREV: [u8; 180] = [
 // signed characters, at 137 one of 3 bytes. At 139 a structure with a bit-field of 128 bits at 4,
 // at 149 a pointer, at 151 a structure with a pointer and one in bits, at 168 one that contains
 // itself, at 175 a union, at 187 an array of three, at 192 a structure without members, at 195 one
-// without a size, at 196 one of 16 bytes.
-const INFO: [u8; 210] = [
-    206, 0, 0, 0, 4, 0, 0, 0, 0, 0, 4, 1, 2, 5, 2, 2, 7, 1, 2, 5, 4, 2, 4, 16, 2, 6, 1, 3, 4, 4,
+// without a size, at 196 one of 16 bytes. At 209 a structure with a member behind 16 subranges.
+const INFO: [u8; 250] = [
+    246, 0, 0, 0, 4, 0, 0, 0, 0, 0, 4, 1, 2, 5, 2, 2, 7, 1, 2, 5, 4, 2, 4, 16, 2, 6, 1, 3, 4, 4,
     97, 0, 12, 3, 5, 5, 98, 0, 12, 124, 6, 99, 0, 12, 2, 35, 0, 7, 100, 0, 8, 101, 0, 12, 3, 4,
     102, 0, 12, 17, 0, 4, 103, 0, 12, 0, 0, 0, 9, 12, 10, 2, 11, 1, 0, 9, 12, 0, 9, 12, 11, 127, 0,
     9, 15, 10, 128, 128, 128, 128, 128, 32, 10, 128, 128, 128, 128, 128, 32, 0, 9, 12, 10, 2, 10,
@@ -39,13 +39,14 @@ const INFO: [u8; 210] = [
     24, 13, 116, 119, 111, 0, 2, 0, 15, 3, 3, 17, 16, 119, 0, 21, 128, 1, 4, 0, 17, 151, 3, 4, 18,
     110, 101, 120, 116, 0, 149, 0, 4, 112, 0, 149, 3, 0, 0, 3, 4, 19, 114, 0, 168, 0, 20, 4, 19,
     105, 0, 18, 18, 115, 0, 12, 2, 0, 9, 18, 10, 3, 0, 3, 0, 0, 21, 3, 16, 18, 105, 0, 18, 0, 18,
-    106, 0, 18, 12, 0, 0,
+    106, 0, 18, 12, 0, 3, 2, 10, 0, 10, 0, 10, 0, 10, 0, 10, 0, 10, 0, 10, 0, 10, 0, 10, 0, 10, 0,
+    10, 0, 10, 0, 10, 0, 10, 0, 10, 0, 10, 0, 18, 105, 0, 12, 0, 0, 0,
 ];
 
 // The offset of a type, where a value comes from, and its text.
 type Row = (u32, Origin, &'static str);
 
-const ROWS: [Row; 26] = [
+const ROWS: [Row; 27] = [
     (
         27,
         Origin::Number(0xe0),
@@ -106,6 +107,7 @@ const ROWS: [Row; 26] = [
         Origin::Address(65_528),
         "{i = 0, j = <outside memory>}",
     ),
+    (209, Origin::Number(0xfffe), "{i = -2}"),
     (
         107,
         Origin::Address(32),
@@ -131,7 +133,10 @@ fn has_text(alloc: Global, units: &Units<'_>, memory: &Option<Memory>, row: &Row
     let Ok(arrays) = Arrays::of(alloc, units) else {
         return false;
     };
-    let units = TypedUnits::new(units, &arrays);
+    let Ok(structures) = Structures::of(alloc, units) else {
+        return false;
+    };
+    let units = TypedUnits::with_structures(units, &arrays, &structures);
     let view = FrameView {
         locals: &[],
         operands: &[],

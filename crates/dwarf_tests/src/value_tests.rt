@@ -4,9 +4,9 @@
 use crate::frames::{Origin, source_of};
 use crate::reading::{sections4, units4};
 use crate::samples::{ABBREV, INFO};
-use dwarf_entries::standing_at;
 use dwarf_expr::FrameView;
 use dwarf_info::Units;
+use dwarf_types::{Arrays, Structures, Typed, TypedUnits, type_at};
 use pm_text::Text;
 use std::alloc::Global;
 use var_eval::{Variable, visible};
@@ -89,27 +89,53 @@ const ENUMERATION_ABBREV: [u8; 22] = [
     1, 17, 1, 0, 0, 2, 4, 1, 11, 11, 0, 0, 3, 40, 0, 3, 8, 28, 13, 0, 0, 0,
 ];
 
-// At 12 an enumeration of four bytes: `a` is 1, `b` is -1, and `c` is 1 too.
-const ENUMERATION: [u8; 28] = [
-    24, 0, 0, 0, 4, 0, 0, 0, 0, 0, 4, 1, 2, 4, 3, 97, 0, 1, 3, 98, 0, 0x7f, 3, 99, 0, 1, 0, 0,
+// At 12 an enumeration of four bytes: `a` is 1, `b` is -1, and `c` is 1 too. At 27 another one, in
+// which 15 enumerators `x` that are 0 stand in front of these.
+const ENUMERATION: [u8; 103] = [
+    99, 0, 0, 0, 4, 0, 0, 0, 0, 0, 4, 1, 2, 4, 3, 97, 0, 1, 3, 98, 0, 0x7f, 3, 99, 0, 1, 0, 2, 4,
+    3, 120, 0, 0, 3, 120, 0, 0, 3, 120, 0, 0, 3, 120, 0, 0, 3, 120, 0, 0, 3, 120, 0, 0, 3, 120, 0,
+    0, 3, 120, 0, 0, 3, 120, 0, 0, 3, 120, 0, 0, 3, 120, 0, 0, 3, 120, 0, 0, 3, 120, 0, 0, 3, 120,
+    0, 0, 3, 120, 0, 0, 3, 97, 0, 1, 3, 98, 0, 0x7f, 3, 99, 0, 1, 0, 0,
 ];
 
-fn has_name(alloc: Global, units: &Option<Units<'_>>, value: i128, name: &str) -> bool {
+// The offset of an enumeration, a value, and its name.
+const NAMES: [(u32, i128, &str); 7] = [
+    (12, 1, "a"),
+    (12, -1, "b"),
+    (12, 7, "7"),
+    (27, 0, "x"),
+    (27, 0x1_0000_0001, "a"),
+    (27, -1, "b"),
+    (27, 7, "7"),
+];
+
+fn has_name(alloc: Global, units: &Option<Units<'_>>, row: &(u32, i128, &str)) -> bool {
     let Some(units) = units else {
         return false;
     };
-    let Some(standing) = standing_at(units, 12) else {
+    let Ok(arrays) = Arrays::of(alloc, units) else {
+        return false;
+    };
+    let Ok(structures) = Structures::of(alloc, units) else {
+        return false;
+    };
+    let types = TypedUnits::with_structures(units, &arrays, &structures);
+    let Typed::At {
+        standing,
+        skipped: _,
+    } = type_at(&types, row.0)
+    else {
         return false;
     };
     let mut text = Text::new(alloc);
-    push_enumeration(&mut text, units, &standing, 4, value).is_ok() && text.as_str() == name
+    push_enumeration(&mut text, units, &standing, 4, row.1).is_ok() && text.as_str() == row.2
 }
 
 #[test]
 fn enumerators_have_names(rt: HostRuntime) {
-    for (value, name) in [(1, "a"), (-1, "b"), (7, "7")] {
+    for row in &NAMES {
         let units = units4(rt.alloc(), &ENUMERATION, &ENUMERATION_ABBREV, &[]);
-        assert!(rt; has_name(rt.alloc(), &units, value, name), "{name}");
+        assert!(rt; has_name(rt.alloc(), &units, row), "{}", row.2);
     }
 }
 

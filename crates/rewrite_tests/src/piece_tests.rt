@@ -116,8 +116,9 @@ const BRANCHES: [Instr; 24] = [
 ];
 
 // A call through the table with an operand left, of the function that the module defines, and of
-// the imported one. Behind the first and the last one the memory may be longer.
-const CALLS: [Instr; 62] = [
+// the imported one. Behind the first and the last one the memory may be longer, and behind each one
+// what tells its length is read into a local.
+const CALLS: [Instr; 68] = [
     Instr::Basic(Basic::LocalGet(5)),
     Instr::Jump(Jump::Call(6)),
     Instr::Basic(Basic::LocalSet(7)),
@@ -159,6 +160,8 @@ const CALLS: [Instr; 62] = [
     Instr::Basic(Basic::Const(Value::I64(4))),
     Instr::Basic(Basic::Binary(ValType::I64, Binary::Sub)),
     Instr::Basic(Basic::GlobalSet(2)),
+    Instr::Basic(Basic::GlobalGet(2)),
+    Instr::Basic(Basic::LocalSet(14)),
     Instr::Basic(Basic::LocalGet(3)),
     Instr::Jump(Jump::Call(4)),
     Instr::Basic(Basic::LocalTee(2)),
@@ -170,7 +173,10 @@ const CALLS: [Instr; 62] = [
     Instr::Basic(Basic::LocalSet(8)),
     Instr::Jump(Jump::Br(2)),
     Instr::End,
+    Instr::Basic(Basic::GlobalGet(2)),
+    Instr::Basic(Basic::LocalSet(14)),
     Instr::Jump(Jump::Call(0)),
+    Instr::Basic(Basic::LocalTee(2)),
     Instr::Basic(Basic::MemorySize),
     Instr::Basic(Basic::Convert(Convert::ExtendU)),
     Instr::Basic(Basic::Const(Value::I64(16))),
@@ -178,13 +184,16 @@ const CALLS: [Instr; 62] = [
     Instr::Basic(Basic::Const(Value::I64(4))),
     Instr::Basic(Basic::Binary(ValType::I64, Binary::Sub)),
     Instr::Basic(Basic::GlobalSet(2)),
-    Instr::Basic(Basic::LocalTee(2)),
+    Instr::Basic(Basic::GlobalGet(2)),
+    Instr::Basic(Basic::LocalSet(14)),
     Instr::End,
 ];
 
 // The ends of a body without nodes, a wrapper, and a helper of a table with an empty entry and one
 // of the right type.
-const ENDS: [Instr; 62] = [
+const ENDS: [Instr; 64] = [
+    Instr::Basic(Basic::GlobalGet(2)),
+    Instr::Basic(Basic::LocalSet(14)),
     Instr::Block(None),
     Instr::Block(Some(ValType::I32)),
     Instr::End,

@@ -46,14 +46,16 @@ fn planned(alloc: Global, bytes: &[u8]) -> Result<Option<SlotPlan>, NoMemory> {
     }
 }
 
-/// How many locals are added, those of the results, and those of a kind and an offset.
-fn has_numbers(plan: &SlotPlan, expected: [u32; 5]) -> bool {
+/// How many locals are added, those of the results, those of a kind and an offset, and that of the
+/// length of the memory.
+fn has_numbers(plan: &SlotPlan, expected: [u32; 6]) -> bool {
     let found = [
         plan.locals(),
         plan.result(ValType::I32),
         plan.result(ValType::I64),
         plan.kind(),
         plan.offset(),
+        plan.length(),
     ];
     found == expected
 }
@@ -90,7 +92,7 @@ fn nested_is_planned(alloc: Global) -> Result<bool, NoMemory> {
     match first_plan(alloc, &source)? {
         Some(plan) => {
             let known = knows(alloc, &source, &plan)?;
-            Ok(known && has_numbers(&plan, [12, 4, 11, 5, 6]))
+            Ok(known && has_numbers(&plan, [13, 4, 11, 5, 6, 12]))
         }
         None => Ok(false),
     }
@@ -99,7 +101,7 @@ fn nested_is_planned(alloc: Global) -> Result<bool, NoMemory> {
 #[test]
 fn added_locals_stand_behind_the_own(rt: HostRuntime) -> Result<(), Fail> {
     match planned(rt.alloc(), &DIV)? {
-        Some(plan) => assert!(rt; has_numbers(&plan, [8, 4, 9, 5, 6]) && has_slots(&plan)),
+        Some(plan) => assert!(rt; has_numbers(&plan, [9, 4, 9, 5, 6, 10]) && has_slots(&plan)),
         None => assert!(rt; false),
     }
     Ok(())
