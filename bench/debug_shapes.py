@@ -169,7 +169,7 @@ def doubled(entries, base, n):
 
 def enumerators(entries, _base, n):
     """An enumeration, of which the value 0 is the last one."""
-    start = entries.add("enumeration", b"e\0\1")
+    start = entries.add("enumeration", b"e\0\4")
     for i in range(n):
         entries.add("enumerator", b"e\0" + struct.pack("<I", n - 1 - i))
     entries.close()
