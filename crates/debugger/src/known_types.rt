@@ -9,18 +9,18 @@ use dwarf_info::{Entry, UnitAnswer, Units};
 use dwarf_types::{Arrays, Class, Structures, TypedUnits, class_of};
 use std::alloc::Global;
 
-/// What is known of arrays, and whether there are structures at all: what is known of them borrows
-/// the units, and is found again by each command that shows variables.
+/// What is known of arrays, and whether there are structures or enumerations at all: what is known of
+/// them borrows the units, and is found again by each command that shows variables.
 #[derive(Drop)]
 pub struct KnownTypes {
     arrays: Arrays,
     structured: bool,
 }
 
-/// Whether a structure, class or union is among entries.
+/// Whether a structure, class, union or enumeration is among entries.
 fn is_structure_among(entries: &[Entry<'_>]) -> bool {
     for entry in entries {
-        if let Class::Members = class_of(entry.tag) {
+        if let Class::Members | Class::Enumeration = class_of(entry.tag) {
             return true;
         }
     }
@@ -50,7 +50,7 @@ impl KnownTypes {
         })
     }
 
-    /// What is known of the structures of the units, where there are any.
+    /// What is known of the structures and enumerations of the units, where there are any.
     pub fn structures<'r, 'a>(
         &self,
         alloc: Global,
