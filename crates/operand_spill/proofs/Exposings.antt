@@ -5,6 +5,7 @@ use Rattle.std.proofs.lemmas.Bool.{eqb-true, ltb-true}
 use Rattle.std.specs.Ordering.{nat_cmp, is_eq}
 use Rattle.std.specs.Prelude.{cond, nat_lt}
 use Rattle.std.specs.BTreeSet.{BTreeSet, Updates}
+use Rattle.std.specs.BTreeMap.{is_at}
 use Rattle.wasm_syntax.specs.declared.value.ValType.{ValType}
 use Rattle.wasm_syntax.specs.declared.instruction.Op.{Op}
 use Rattle.wasm_syntax.specs.declared.instruction.Basic.{Basic}
@@ -171,8 +172,8 @@ module _ (these : ℕ → Bool) where
   gives fs c saved (jump o j rest) e at more os it q r = gives fs no_copies saved rest e at more os it q r
   gives fs c saved (block o t inner end rest) e at more os it q r =
       let kept = others these fs in
-      let a = exposed_from these kept no_copies inner in
-      gives kept no_copies (kept ∷ saved) inner End end (write rest (placed at e ∷ more)) os it.0 quiet_end end_restores
+      let a = exposed_from these fs no_copies inner in
+      gives fs no_copies (kept ∷ saved) inner End end (write rest (placed at e ∷ more)) os it.0 quiet_end end_restores
       ∙ gives kept no_copies saved rest e at more (os ++ a) it.1 q r
       ∙ two_parts (passed these (here [] no_copies saved) e) more os a (exposed_from these kept no_copies rest)
   gives fs c saved (loop o t inner end rest) e at more os it q r =
@@ -183,19 +184,19 @@ module _ (these : ℕ → Bool) where
       ∙ two_parts (passed these (here [] no_copies saved) e) more os a (exposed_from these kept no_copies rest)
   gives fs c saved (choose o t x None y end rest) e at more os it q r =
       let kept = others these fs in
-      let a = exposed_from these kept no_copies x in
+      let a = exposed_from these fs no_copies x in
       let d = exposed_from these kept no_copies rest in
-      ap (λ y. exposed_along these (here kept no_copies (kept ∷ saved)) (write x (write y (placed end End ∷ write rest (placed at e ∷ more)))) os) it.1
-      ∙ gives kept no_copies (kept ∷ saved) x End end (write rest (placed at e ∷ more)) os it.0 quiet_end end_restores
+      ap (λ y. exposed_along these (here fs no_copies (kept ∷ saved)) (write x (write y (placed end End ∷ write rest (placed at e ∷ more)))) os) it.1
+      ∙ gives fs no_copies (kept ∷ saved) x End end (write rest (placed at e ∷ more)) os it.0 quiet_end end_restores
       ∙ gives kept no_copies saved rest e at more (os ++ a) it.3 q r
       ∙ two_parts (passed these (here [] no_copies saved) e) more os a d
       ∙ ap (λ y. exposed_along these (passed these (here [] no_copies saved) e) more (os ++ (a ++ (exposed_from these kept no_copies y ++ d)))) (sym it.1)
   gives fs c saved (choose o t x (Some els) y end rest) e at more os it q r =
       let kept = others these fs in
-      let a = exposed_from these kept no_copies x in
+      let a = exposed_from these fs no_copies x in
       let b = exposed_from these kept no_copies y in
       let d = exposed_from these kept no_copies rest in
-      gives kept no_copies (kept ∷ saved) x Else els (write y (placed end End ∷ write rest (placed at e ∷ more))) os it.0 quiet_else else_restores
+      gives fs no_copies (kept ∷ saved) x Else els (write y (placed end End ∷ write rest (placed at e ∷ more))) os it.0 quiet_else else_restores
       ∙ gives kept no_copies (kept ∷ saved) y End end (write rest (placed at e ∷ more)) (os ++ a) it.2 quiet_end end_restores
       ∙ gives kept no_copies saved rest e at more ((os ++ a) ++ b) it.3 q r
       ∙ two_parts (passed these (here [] no_copies saved) e) more (os ++ a) b d
@@ -262,9 +263,13 @@ or_cond true false = refl
 or_cond false true = refl
 or_cond false false = refl
 
+-- whether a key is at a number
+pub at_key : (k x : ℕ) → is_at (nat_cmp k) x ≡ (k == x)
+at_key k x = at_by (nat_lt k x) (k == x) (λ l. apart k x (k == x) refl l)
+
 pub marks_updated : (m n : BTreeSet ℕ) (k x : ℕ) → Updates nat_cmp m n k true → held n x ≡ (held m x || (k == x))
 marks_updated m n k x u =
-    u.0 x ∙ ap (λ b. cond b true (held m x)) (at_by (nat_lt k x) (k == x) (λ l. apart k x (k == x) refl l)) ∙ or_cond (k == x) (held m x)
+    u.0 x ∙ ap (λ b. cond b true (held m x)) (at_key k x) ∙ or_cond (k == x) (held m x)
 
 -- ---- facts that are kept
 

@@ -10,3 +10,4 @@ pub mod Skips
 pub mod Arms
 pub mod Gathered
 pub mod Exposings
+pub mod Derivings

@@ -3,3 +3,4 @@ pub mod Greatest
 pub mod Knowing
 pub mod Noting
 pub mod Exposing
+pub mod Deriving

@@ -6,7 +6,7 @@ ghost use Rattle.rewrite_bodies.specs.calls.Slots.{local_written};
 ghost use Rattle.rewrite_bodies.specs.calls.Facts.{no_copies, copies_behind};
 ghost use Rattle.rewrite_bodies.specs.calls.Facts.{first_facts, facts_behind, frail, exposed_in};
 ghost use Rattle.operand_spill.specs.inner.Exposing.{held, deeper, marked_by, here, latest};
-ghost use Rattle.operand_spill.specs.inner.Exposing.{older, entered, passed, is_exposed, one_more};
+ghost use Rattle.operand_spill.specs.inner.Exposing.{older, entered, begun, passed, is_exposed, one_more};
 
 use crate::copies::KnownCopies;
 use crate::facts::{Facts, shown};
@@ -20,7 +20,7 @@ use wasm_syntax::{Basic, Instr, ModuleParts, Op, read_op};
 // ---- locals that blocks write
 
 /// The local that an instruction writes.
-fn local_written(instruction: Basic) -> Option<u32>
+pub(crate) fn local_written(instruction: Basic) -> Option<u32>
     ensures { result ≡ local_written instruction }
 {
     match instruction {
@@ -169,9 +169,19 @@ impl Knowing {
         Ok(())
     }
 
-    // The beginning of a block.
+    // The beginning of a block: what holds in front of it does.
     fn enter(&mut self, marks: &BTreeSet<u32>) -> Result<(), NoMemory>
         ensures { OnOk result (self.new ≡ entered (held marks.now) self.old) }
+    {
+        let kept = self.facts.unmarked(marks)?;
+        self.saved.push(kept)?;
+        self.forget();
+        Ok(())
+    }
+
+    // The beginning of a loop, to which the code comes back.
+    fn begin(&mut self, marks: &BTreeSet<u32>) -> Result<(), NoMemory>
+        ensures { OnOk result (self.new ≡ begun (held marks.now) self.old) }
     {
         let kept = self.facts.unmarked(marks)?;
         self.facts = kept.copy()?;
@@ -212,7 +222,7 @@ impl Knowing {
         match code {
             Instr::Basic(instruction) => self.perform(instruction),
             Instr::Block(_) => self.enter(marks),
-            Instr::Loop(_) => self.enter(marks),
+            Instr::Loop(_) => self.begin(marks),
             Instr::If(_) => self.enter(marks),
             Instr::Else => self.alternate(),
             Instr::Jump(_) => {

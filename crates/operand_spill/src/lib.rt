@@ -3,6 +3,7 @@
 #![tactic(auto)]
 
 mod copies;
+mod derived;
 mod effect;
 mod exposing;
 mod facts;
@@ -15,8 +16,11 @@ mod noting;
 mod places;
 mod skip;
 mod slots;
+mod times;
+mod trail;
 mod walk;
 
+pub use derived::derivations;
 pub use effect::{result_place, takes};
 pub use exposing::exposed;
 pub use flow::Flow;

@@ -23,7 +23,7 @@ use Rattle.wasm_syntax.specs.declared.host.CollectorCall.{CollectorCall}
 use Rattle.wasm_syntax.specs.declared.host.CollectorCall.TheVariants as collector_calls
 use Rattle.wasm_syntax.specs.Machine.{Kind, leaves, returns, Label, Frame, Config, label, frame, config, Engine, Stepped, next, traps, Cut, short, parts, one_more, cut, exactly, pick, zero_of, zeros, result_of, function_type, entered, host_call, deliver, host, enters, applied_if, calls_on, calls, step, offset_in, top}
 use Rattle.rewrite_bodies.specs.calls.Slots.{Place, Spilled, Ctx, slot, kind_at, offset_at, added, less, grown, ctx_of, Landing, measured}
-use Rattle.rewrite_bodies.specs.calls.Rewrite.{hand, hand_top, to_exit, hand_left, test_flag, test_both, unwind, unwind_kind, passes, after_direct, call_code, helper_of, past_shown, rewrite, body}
+use Rattle.rewrite_bodies.specs.calls.Rewrite.{hand, hand_top, to_exit, hand_left, test_flag, test_both, unwind, unwind_kind, spare, passes, after_direct, call_code, helper_of, past_shown, rewrite, body}
 use Rattle.rewrite_bodies.specs.Numbering.{import_count, mapped, place_in, global_types, helper_base, helped, doubles, flag_of}
 use Rattle.rewrite_bodies.proofs.Doubled.{past, entry_past, entry_low}
 use Rattle.rewrite_bodies.specs.calls.Pieces.{get, set, const, call, if_any, fetch, load, keep, store, reload, drops, tree_of}
@@ -53,6 +53,9 @@ use Rattle.rewrite_bodies.specs.inner.Promises.{Comes}
 use Rattle.rewrite_bodies.specs.calls.Facts.{exposed_in}
 use Rattle.rewrite_bodies.proofs.Longer.{least_longer, put_fits, writes_longer}
 use Rattle.rewrite_bodies.specs.calls.Known.{HasLeast, nodes_of}
+use Rattle.rewrite_bodies.specs.calls.Derived.{derived_for, derived_at, DerivedCallers}
+use Rattle.rewrite_bodies.proofs.DerivedLaws.{derived_few}
+use Rattle.rewrite_bodies.proofs.WorkedOut.{Ready}
 
 -- the locals of a function that is called on these arguments
 pub types-locals : (args : List Value) (ps ls : List ValType) → types args ≡ ps → types (args ++ zeros ls) ≡ ps ++ ls
@@ -186,22 +189,22 @@ module _ (M M' : Engine) (E : ℕ) (gl : List ValType) (W : Wrap) (S : Stands M 
     size : length C.locals ≡ length l
     size = len_of l C.locals f.size
 
-    -- where no operand passes
-    all_fit : passes C N ≡ false → FitsLabels C l ex None (LL ∷ Ls) (e ∷ ss)
+    -- where all operands are kept
+    all_fit : spare C N ≡ 0 → FitsLabels C l ex None (LL ∷ Ls) (e ∷ ss)
     all_fit p = kept_all C l ex (told_length g.memory) LL Ls e ss p f.labels
 
     -- a verdict is a trap, and this code hands over the operands of this frame: it hands over its values, and then the others do
-    trap_out : passes C N ≡ false → (t : Config) (j : ℕ) (k : Nodes) (s ex1 : List Value) (H : Nodes) → types ex1 ≡ added C.slots → slice_get ex1 (kind_at C) ≡ Some (values.I32 (suc j)) → Hands M' C sp M l (leaves None) (armed X k s).below X.frames g 0 co (ls + length C.landings) H (LL ∷ Ls) (slice_set ex1 (offset_at C) (values.I32 o)) → To M' 1 (C.slots + 40) t (st (armed X k s) (l ++ ex1) [] (const (values.I32 o) (set C (offset_at C) H)) g0 co) → Comes M M' E gl W t (traps (suc j) (config (FF ∷ Fs) g co))
-    trap_out p t j k s ex1 H room kd hands pre =
+    trap_out : spare C N ≡ 0 → Ready C l → DerivedCallers M.program Fs → (t : Config) (j : ℕ) (k : Nodes) (s ex1 : List Value) (H : Nodes) → types ex1 ≡ added C.slots → slice_get ex1 (kind_at C) ≡ Some (values.I32 (suc j)) → Hands M' C sp M l (leaves None) (armed X k s).below X.frames g 0 co (ls + length C.landings) H (LL ∷ Ls) (slice_set ex1 (offset_at C) (values.I32 o)) → To M' 1 (C.slots + 40) t (st (armed X k s) (l ++ ex1) [] (const (values.I32 o) (set C (offset_at C) H)) g0 co) → Comes M M' E gl W t (traps (suc j) (config (FF ∷ Fs) g co))
+    trap_out p rd ds t j k s ex1 H room kd hands pre =
         let X1 = armed X k s in
-        let v3 = frame_out M' C sp M l f.size ex1 (LL ∷ Ls) (ls + length C.landings) X1.kind X1.below X1.frames g 0 co o (suc j) H room kd gt (exit_branch C l ex None s k LL Ls e ss (all_fit p)) hands in
+        let v3 = frame_out M' C sp M l f.size rd ex1 (LL ∷ Ls) (ls + length C.landings) X1.kind X1.below X1.frames g 0 co o (suc j) H room kd gt (exit_branch C l ex None s k LL Ls e ss (all_fit p)) hands in
         let all : Gets M' 1 E t (deliver M' (zero_vs C.result) X.frames (flagged M g (values.I32 1)) (collector_calls.Frame (suc j) C.index o (length C.locals) ∷ tell_locals l (tell_labels (LL ∷ Ls) co))) = weaken M' (seq M' pre v3) (omega arith) (omega (arith, f.small)) in
         let up : Up M M' E gl W S.speaks t 1 E r Fs ws g (tell_frame (suc j) o FF co) = renamed M M' E gl W S.speaks t 1 E C.result r C.index ix (length C.locals) (length l) o (suc j) X.frames g (tell_locals l (tell_labels (LL ∷ Ls) co)) f.result f.idx size all in
-        inr (wf, weaken M' (up_all M M' E gl W S.speaks Fs ws g (tell_frame (suc j) o FF co) t 1 E r fs wf up) (omega arith) (omega arith))
+        inr (wf, weaken M' (up_all M M' E gl W S.speaks Fs ws g (tell_frame (suc j) o FF co) t 1 E r fs ds wf up) (omega arith) (omega arith))
 
     -- the kind that a guard gave, inside its arm
-    pub trap_from : passes C N ≡ false → (t : Config) (j : ℕ) (k : Nodes) → To M' 1 30 t (st (armed X k ops) (l ++ ex) (values.I32 (suc j) ∷ []) (unwind_kind C ls es o) g0 co) → Comes M M' E gl W t (traps (suc j) (config (FF ∷ Fs) g co))
-    trap_from p t j k pre =
+    pub trap_from : spare C N ≡ 0 → Ready C l → DerivedCallers M.program Fs → (t : Config) (j : ℕ) (k : Nodes) → To M' 1 30 t (st (armed X k ops) (l ++ ex) (values.I32 (suc j) ∷ []) (unwind_kind C ls es o) g0 co) → Comes M M' E gl W t (traps (suc j) (config (FF ∷ Fs) g co))
+    trap_from p rd ds t j k pre =
         let h = all_fit p in
         let at : slice_get (types ex) (kind_at C) ≡ Some I32 = rw f.room (added_kind C.slots) in
         let v = values.I32 (suc j) in
@@ -212,22 +215,22 @@ module _ (M M' : Engine) (E : ℕ) (gl : List ValType) (W : Wrap) (S : Stands M 
         let h2 = fits_offset C l ex1 None (LL ∷ Ls) (e ∷ ss) (values.I32 o) (omega (arith, low)) h1 in
         let X1 = armed X k ops in
         let hands : Hands M' C sp M l X1.kind X1.below X1.frames g 0 co (ls + length C.landings) (hand C es (to_exit C ls)) (LL ∷ Ls) (slice_set ex1 (offset_at C) (values.I32 o)) = weaken M' (hand_to M' C sp l size (slice_set ex1 (offset_at C) (values.I32 o)) None (LL ∷ Ls) (e ∷ ss) (to_exit C ls) h2) (omega arith) (omega (arith, low)) in
-        trap_out p t j k ops ex1 (hand C es (to_exit C ls)) (types-slice_set ex (kind_at C) I32 v at refl ∙ f.room) (slice_get-put_same ex (kind_at C) I32 v at) hands (weaken M' (seq M' pre v1) (omega arith) (omega arith))
+        trap_out p rd ds t j k ops ex1 (hand C es (to_exit C ls)) (types-slice_set ex (kind_at C) I32 v at refl ∙ f.room) (slice_get-put_same ex (kind_at C) I32 v at) hands (weaken M' (seq M' pre v1) (omega arith) (omega arith))
 
     -- or the frame is left for a landing, the topmost operands along with the branch
-    pub trap_landed : passes C N ≡ false → (t : Config) (j : ℕ) (k : Nodes) (x : Landing) (n : ℕ) (vs others : List Value) → number_of x C.landings ≡ Some n → x.kind ≡ suc j → top x.carried ops ≡ Some vs → ((ex2 : List Value) → FitsLabels C l ex2 None (LL ∷ Ls) (e ∷ ss) → AllIn C l ex2 others x.places) → length x.places ≤ C.slots → tell_ops (vs ++ others) co ≡ tell_labels (LL ∷ Ls) co → To M' 1 30 t (st X (l ++ slice_set ex (offset_at C) (values.I32 o)) (values.I32 1 ∷ ops) (jump 0 (BrIf (ls + n)) k) g0 co) → Comes M M' E gl W t (traps (suc j) (config (FF ∷ Fs) g co))
-    trap_landed p t j k x n vs others is kind top_is places few told_ pre =
+    pub trap_landed : spare C N ≡ 0 → Ready C l → DerivedCallers M.program Fs → (t : Config) (j : ℕ) (k : Nodes) (x : Landing) (n : ℕ) (vs others : List Value) → number_of x C.landings ≡ Some n → x.kind ≡ suc j → top x.carried ops ≡ Some vs → ((ex2 : List Value) → FitsLabels C l ex2 None (LL ∷ Ls) (e ∷ ss) → AllIn C l ex2 others x.places) → length x.places ≤ C.slots → tell_ops (vs ++ others) co ≡ tell_labels (LL ∷ Ls) co → To M' 1 30 t (st X (l ++ slice_set ex (offset_at C) (values.I32 o)) (values.I32 1 ∷ ops) (jump 0 (BrIf (ls + n)) k) g0 co) → Comes M M' E gl W t (traps (suc j) (config (FF ∷ Fs) g co))
+    trap_landed p rd ds t j k x n vs others is kind top_is places few told_ pre =
         let low = room_height C es N f.labels.2 in
         let at : slice_get (types ex) (offset_at C) ≡ Some I32 = rw f.room (added_offset C.slots) in
         let exm = slice_set ex (offset_at C) (values.I32 o) in
         let roomm : types exm ≡ added C.slots = types-slice_set ex (offset_at C) I32 (values.I32 o) at refl ∙ f.room in
         let hm = fits_offset C l ex None (LL ∷ Ls) (e ∷ ss) (values.I32 o) (omega (arith, low)) (all_fit p) in
         let hk = fits_kind C l exm None (LL ∷ Ls) (e ∷ ss) (values.I32 x.kind) (omega (arith, low)) hm in
-        let out = landed_out M' C sp M l f.size exm LL Ls e ss x n X.frames g 0 co o 0 ops vs others k None hm roomm (slice_get-put_same ex (offset_at C) I32 (values.I32 o) at) gt is top_is (places (slice_set exm (kind_at C) (values.I32 x.kind)) hk) few in
+        let out = landed_out M' C sp M l f.size rd exm LL Ls e ss x n X.frames g 0 co o 0 ops vs others k None hm roomm (slice_get-put_same ex (offset_at C) I32 (values.I32 o) at) gt is top_is (places (slice_set exm (kind_at C) (values.I32 x.kind)) hk) few in
         let all_ : Gets M' 1 E t (deliver M' (zero_vs C.result) X.frames (flagged M g (values.I32 1)) (collector_calls.Frame x.kind C.index o (length C.locals) ∷ tell_locals l (tell_ops (vs ++ others) co))) = weaken M' (seq M' pre out) (omega arith) (omega (arith, f.small)) in
         let all : Gets M' 1 E t (deliver M' (zero_vs C.result) X.frames (flagged M g (values.I32 1)) (collector_calls.Frame (suc j) C.index o (length C.locals) ∷ tell_locals l (tell_labels (LL ∷ Ls) co))) = rw (kind, told_) at all_ in
         let up : Up M M' E gl W S.speaks t 1 E r Fs ws g (tell_frame (suc j) o FF co) = renamed M M' E gl W S.speaks t 1 E C.result r C.index ix (length C.locals) (length l) o (suc j) X.frames g (tell_locals l (tell_labels (LL ∷ Ls) co)) f.result f.idx size all in
-        inr (wf, weaken M' (up_all M M' E gl W S.speaks Fs ws g (tell_frame (suc j) o FF co) t 1 E r fs wf up) (omega arith) (omega arith))
+        inr (wf, weaken M' (up_all M M' E gl W S.speaks Fs ws g (tell_frame (suc j) o FF co) t 1 E r fs ds wf up) (omega arith) (omega arith))
 
     -- a function is called, from a state of the target that is about to call it: directly, or through the table inside an arm
     module _ (ex1 : List Value) (below : List Value) (e' : List Place) (rest : Nodes) (fn : Function) (vs : List Value) (dq : Bool) (others : Option UnderWay) where
@@ -410,7 +413,8 @@ module _ (M M' : Engine) (E : ℕ) (gl : List ValType) (W : Wrap) (S : Stands M 
         let k = S.functions g' b tree type at in
         let C0 = ctx_of M.program g' b type k.slots in
         let os = exposed_in M.program.module_.memories tree.nodes in
-        let C1 = landed C0 os [] in
+        let C1 = landed C0 os [] [] in
+        let ds = derived_for M.program.module_ g' (type.params ++ declared_locals b.groups) tree.nodes in
         let C' = with_landings C0 tree.nodes in
         let few_ = few_landings C1 [] tree.nodes [] (omega arith) in
         let args = reverse vs in
@@ -428,7 +432,7 @@ module _ (M M' : Engine) (E : ℕ) (gl : List ValType) (W : Wrap) (S : Stands M 
         let flag' : global_types C'.source ≡ gl = ap global_types (sym f.funcs) ∙ f.flag in
         let s3 : To M' 0 27 mid (config (t_frame now (entered g' b tree type args) (wit C' exn ([] ∷ [])) ∷ stands_under Z ex1 (lies_under ex1 below e' rest (defined b tree type) vs dq others others) code) g0 co) = into_function M' M (mapped M.program.module_ g') (result_of type) (stands_under Z ex1 (lies_under ex1 below e' rest (defined b tree type) vs dq others others) code) g co C' (args ++ zeros (declared_locals b.groups)) ex' tree.nodes size' (zero_types (added k.slots)) (flag_len C' g (wf.globals ∙ sym flag')) few_ in
         let callee : FitsFrame M E gl (running g) (entered g' b tree type args) (wit C' exn ([] ∷ [])) =
-        record { size = types-locals args type.params (declared_locals b.groups) ty; room = types_told (measured C') C' n ex' (zero_types (added k.slots)) ∙ zero_types (added k.slots); idx = refl; result = refl; funcs = refl; base = refl; helpers = refl; flag = flag'; small = k.small; exposed = ap (λ q. exposed_in M.program.module_.memories (nodes_of q)) (sym at); narrow = k.narrow; labels = (loosened C' (passes C' tree.nodes) (args ++ zeros (declared_locals b.groups)) exn [] [] [] tt, has_told C' n ex' (zero_types (added k.slots)), room_landed C0 os (landings_from C1 [] tree.nodes []) [] tree.nodes k.room, refl, tt); no_kind = tt } in (
+        record { size = types-locals args type.params (declared_locals b.groups) ty; room = types_told (measured C') C' n ex' (zero_types (added k.slots)) ∙ zero_types (added k.slots); idx = refl; result = refl; funcs = refl; base = refl; helpers = refl; flag = flag'; small = k.small; exposed = ap (λ q. exposed_in M.program.module_.memories (nodes_of q)) (sym at); derivations = ap (λ q. derived_at M.program.module_ g' q) (sym at); few = derived_few M.program.module_ g' (type.params ++ declared_locals b.groups) tree.nodes; narrow = k.narrow; labels = (loosened C' (spare C' tree.nodes) (args ++ zeros (declared_locals b.groups)) exn [] [] [] tt, has_told C' n ex' (zero_types (added k.slots)), room_landed C0 os (landings_from C1 [] tree.nodes []) ds [] tree.nodes k.room, refl, tt); no_kind = tt } in (
           wit C' exn ([] ∷ []) ∷ wit_under C ex1 (e' ∷ ss) others ∷ ws,
           (wf, (callee, (refit_under l (label below rest en kd ∷ Ls) ex1 (e' ∷ ss) others (Waits (result_of type)) o f refl same hb nk, fs))),
           subst (λ z. To M' 1 E t (config (t_frame now (entered g' b tree type args) (wit C' exn ([] ∷ [])) ∷ z) g0 co)) (frames_under ex1 below e' rest b tree type vs dq others df) (weaken M' (seq M' s1 s3) (omega arith) (omega (arith, le, f.small))),
@@ -654,8 +658,8 @@ module _ (M M' : Engine) (E : ℕ) (gl : List ValType) (W : Wrap) (S : Stands M 
     kind_stays lbl j (inr (inr (inl x))) = rw x.1 (refl, refl)
     kind_stays lbl j (inr (inr (inr x))) = rw x.1 (refl, refl)
 
-    pub entry_trap : (type : FuncType) (q : Option (Option ℕ)) (lbl j : ℕ) → Has t C.helpers → slice_get (first_table M.program.module_) n ≡ q → unwrap_or (option_map (entry_label M.program.module_ t) q) 1 ≡ lbl → Label_kind lbl (suc j) → Comes M M' E gl W (st XI (l ++ ex) all_i (guarded_call type) gi co) (traps (suc j) (config (FI ∷ Fs) g co))
-    entry_trap type q lbl j has tq le lk =
+    pub entry_trap : Ready C l → DerivedCallers M.program Fs → (type : FuncType) (q : Option (Option ℕ)) (lbl j : ℕ) → Has t C.helpers → slice_get (first_table M.program.module_) n ≡ q → unwrap_or (option_map (entry_label M.program.module_ t) q) 1 ≡ lbl → Label_kind lbl (suc j) → Comes M M' E gl W (st XI (l ++ ex) all_i (guarded_call type) gi co) (traps (suc j) (config (FI ∷ Fs) g co))
+    entry_trap rd ds type q lbl j has tq le lk =
         let h = kept_all C l ex (told_length g.memory) LI Ls (e1 ∷ e) ss refl f.labels in
         let v = values.I32 (suc j) in
         let exk = slice_set ex (kind_at C) v in
@@ -679,7 +683,7 @@ module _ (M M' : Engine) (E : ℕ) (gl : List ValType) (W : Wrap) (S : Stands M 
         let s2 : To M' 2 2 (st XI (l ++ exk) (values.I32 0 ∷ all_i) (if_any (made type) (behind_i type)) gi co) (st XI (l ++ exk) all_i (behind_i type) gi co) = if_zero_to M' in
         let s3 = both_to M M' E gl W C XI l exk all_i g co lsi (left_by type) at (others_of type) k (suc j) 0 (suc j) size_i kq (flag_len C g (wf.globals ∙ sym f.flag)) ks.1 in
         let s4 : To M' 1 1 (st XI (l ++ exk) (v ∷ all_i) (if_any (const (values.I32 at) (set C (offset_at C) H)) k) gi co) (st X1 (l ++ exk) [] (const (values.I32 at) (set C (offset_at C) H)) gi co) = one_step M' _ _ refl in
-        trap_out M M' E gl W S C ex (e1 ∷ e) ss ws ix cl r l (values.I32 n ∷ ops) en kd Ls Fs g co NI f fs wf refl (st XI (l ++ ex) all_i (guarded_call type) gi co) j k all_i exk H room kq hands (weaken M' (seq M' s0 (seq M' s1 (seq M' s2 (seq M' s3 s4)))) (omega arith) (omega arith))
+        trap_out M M' E gl W S C ex (e1 ∷ e) ss ws ix cl r l (values.I32 n ∷ ops) en kd Ls Fs g co NI f fs wf refl rd ds (st XI (l ++ ex) all_i (guarded_call type) gi co) j k all_i exk H room kq hands (weaken M' (seq M' s0 (seq M' s1 (seq M' s2 (seq M' s3 s4)))) (omega arith) (omega arith))
 
     abbrev RoomI : FuncType → Type 0
     RoomI type = FitsIn C (result_of type) (less (length type.params) esi) × Room C (grown (result_of type) (less (length type.params) esi)) rest

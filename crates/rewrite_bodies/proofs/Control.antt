@@ -13,7 +13,7 @@ use Rattle.wasm_syntax.specs.Host.{World}
 use Rattle.wasm_syntax.specs.declared.host.CollectorCall.{CollectorCall}
 use Rattle.wasm_syntax.specs.Machine.{Kind, leaves, again, returns, Label, Frame, Config, label, frame, Engine, top, exactly, Went, arrive, arrive_some, out_some, leave, loops, land, branch, carried_by, carry, same_result, same_carry, pick, deliver, moved, branch_if, moved_if, branch_table}
 use Rattle.rewrite_bodies.specs.calls.Slots.{added, Place, Spilled, Ctx, slot, kind_at, offset_at, grown, under, measured}
-use Rattle.rewrite_bodies.specs.calls.Rewrite.{hand_left, test_flag, test_both, with_result, rewrite, get_flag, checked, passes}
+use Rattle.rewrite_bodies.specs.calls.Rewrite.{hand_left, test_flag, test_both, with_result, rewrite, get_flag, checked, spare, passes}
 use Rattle.rewrite_bodies.specs.calls.Landings.{number_of, landing_behind, part_of}
 use Rattle.rewrite_bodies.proofs.Landed.{marked, types_marked, br_if_down, mark_to, first_kind, l_below, l_head}
 use Rattle.rewrite_bodies.specs.Numbering.{mapped, flag_of}
@@ -313,7 +313,7 @@ module _ (M M' : Engine) (E : ℕ) (gl : List ValType) (W : Wrap) where
   br_if_node C ex [] ss ws i cl r l (values.I32 v ∷ ops) en kd Ls Fs g co o n rest f fs gl_ = absurd f.labels.0
   br_if_node C ex (e1 ∷ e) ss ws i cl r l (values.I32 zero ∷ ops) en kd Ls Fs g co o n rest f fs gl_ =
       let h = f.labels in
-      (wit C ex (e ∷ ss) ∷ ws, (gl_, (refit l (label ops rest en kd ∷ Ls) ex (e ∷ ss) (running g) cl f refl refl (loosened C (passes C rest) l ex (joined ss) e ops h.0.1, h.1, h.2.1, h.3, h.4), fs)), weaken M' (one_step M' _ _ refl) (omega arith) (omega (arith, f.small)))
+      (wit C ex (e ∷ ss) ∷ ws, (gl_, (refit l (label ops rest en kd ∷ Ls) ex (e ∷ ss) (running g) cl f refl refl (loosened C (spare C rest) l ex (joined ss) e ops h.0.1, h.1, h.2.1, h.3, h.4), fs)), weaken M' (one_step M' _ _ refl) (omega arith) (omega (arith, f.small)))
   br_if_node C ex (e1 ∷ e) ss ws i cl r l (values.I32 (suc v) ∷ ops) en kd Ls Fs g co o n rest f fs gl_ =
       let nodes = jump o (BrIf n) rest in
       let all = values.I32 (suc v) ∷ ops in

@@ -12,6 +12,8 @@ use Rattle.wasm_syntax.specs.declared.instruction.Load.{Load as Loading}
 use Rattle.wasm_syntax.specs.declared.instruction.Store.{Store as Storing}
 use Rattle.wasm_syntax.specs.declared.parts.Limits.{Limits}
 use Rattle.int_ops.specs.declared.operators.ArithTrap.{ArithTrap}
+use Rattle.int_ops.specs.declared.operators.Binary.{Binary as BinaryOp}
+use Rattle.int_ops.specs.declared.operators.Compare.{Compare as CompareOp}
 use Rattle.int_ops.specs.Integers.{extend32, extend64}
 use Rattle.wasm_syntax.specs.Numbers.{number, value, type_of, same_type, modulo, bool_number, unary, compare, binary, convert, convert_from, convert_to}
 use Rattle.wasm_syntax.specs.Access.{load_type, load_bits, loaded, store_type, store_bits}
@@ -100,10 +102,10 @@ sound_from all these fs c (basic o i rest) s w =
 sound_from all these fs c (jump o j rest) s w = sound_from all these fs no_copies rest s w
 sound_from all these fs c (block o t inner end rest) s w =
     let kept = others these fs in
-    let a = exposed_from these kept no_copies inner in
+    let a = exposed_from these fs no_copies inner in
     let b = exposed_from these kept no_copies rest in
     let all_in : Within these inner = λ x h. w x (or_left (written inner x) (frail rest x) h) in
-    (all_in, sound_from all these kept no_copies inner (λ p h. s p (among_front p a b h)) (λ x h. all_in x (frail_written inner x h)), sound_from all these kept no_copies rest (λ p h. s p (among_back p a b h)) (λ x h. w x (or_right (written inner x) (frail rest x) h)))
+    (all_in, sound_from all these fs no_copies inner (λ p h. s p (among_front p a b h)) (λ x h. all_in x (frail_written inner x h)), sound_from all these kept no_copies rest (λ p h. s p (among_back p a b h)) (λ x h. w x (or_right (written inner x) (frail rest x) h)))
 sound_from all these fs c (loop o t inner end rest) s w =
     let kept = others these fs in
     let a = exposed_from these kept no_copies inner in
@@ -112,14 +114,14 @@ sound_from all these fs c (loop o t inner end rest) s w =
     (all_in, sound_from all these kept no_copies inner (λ p h. s p (among_front p a b h)) (λ x h. all_in x (frail_written inner x h)), sound_from all these kept no_copies rest (λ p h. s p (among_back p a b h)) (λ x h. w x (or_right (written inner x) (frail rest x) h)))
 sound_from all these fs c (choose o t x ea y end rest) s w =
     let kept = others these fs in
-    let a = exposed_from these kept no_copies x in
+    let a = exposed_from these fs no_copies x in
     let b = exposed_from these kept no_copies y in
     let d = exposed_from these kept no_copies rest in
     let in_a : Within these x = λ z h. w z (or_left (written x z) (written y z || frail rest z) h) in
     let in_b : Within these y = λ z h. w z (or_right (written x z) (written y z || frail rest z) (or_left (written y z) (frail rest z) h)) in
     let in_rest : (z : ℕ) → frail rest z ≡ true → these z ≡ true = λ z h. w z (or_right (written x z) (written y z || frail rest z) (or_right (written y z) (frail rest z) h)) in (
       (in_a, in_b),
-      (sound_from all these kept no_copies x (λ p h. s p (among_front p a (b ++ d) h)) (λ z h. in_a z (frail_written x z h)), sound_from all these kept no_copies y (λ p h. s p (among_back p a (b ++ d) (among_front p b d h))) (λ z h. in_b z (frail_written y z h))),
+      (sound_from all these fs no_copies x (λ p h. s p (among_front p a (b ++ d) h)) (λ z h. in_a z (frail_written x z h)), sound_from all these kept no_copies y (λ p h. s p (among_back p a (b ++ d) (among_front p b d h))) (λ z h. in_b z (frail_written y z h))),
       sound_from all these kept no_copies rest (λ p h. s p (among_back p a (b ++ d) (among_back p b d h))) in_rest,
     )
 
@@ -525,6 +527,14 @@ module _ (g : World) (l : List Value) where
       given_one l I32 (λ a. with_some g.memory (go a)) vs
       (λ a. given_some l g.memory (go a) (λ m. given_bounded l (memories.load m (address a o) (load_bits t / 8)) found (λ n. (refl, value (load_type t) (loaded t n), refl))))
 
+  pub compare_gives : (t : ValType) (op : CompareOp) (vs : List Value) → OneGiven l (effect (Compare t op) g l vs)
+  compare_gives t op vs = given_two l t t (λ b a. gives g l (values.I32 (bool_number (compare t op a b)) ∷ [])) vs (λ b a. (refl, values.I32 (bool_number (compare t op a b)), refl))
+
+  pub binary_gives : (t : ValType) (op : BinaryOp) (vs : List Value) → OneGiven l (effect (Binary t op) g l vs)
+  binary_gives t op vs =
+      given_two l t t (λ b a. divides (binary t op a b) (λ n. gives g l (value t n ∷ []))) vs
+      (λ b a. given_divided l (binary t op a b) (λ n. gives g l (value t n ∷ [])) (λ n. (refl, value t n, refl)))
+
   -- under one more operand
   under_holds : (l : List Value) (top : Option Copy) (v : Value) (c : Copies) (below : List Value) → IsCopy l top (v ∷ below) → CopiesHold l c below → CopiesHold l (under_one top c) (v ∷ below)
   under_holds l top v c below t h = (t, h.0, h.1)
@@ -600,8 +610,8 @@ module _ (g : World) (l : List Value) where
   copies_go_on MemoryFill c ops vs below g' l' ws h u e = (tt, tt, tt)
   copies_go_on (Eqz t) c ops vs below g' l' ws h u e = of_one (Eqz t) c ops vs below g' l' ws (λ vs. given_one l t (λ a. gives g l (values.I32 (bool_number (a == 0)) ∷ [])) vs (λ a. (refl, values.I32 (bool_number (a == 0)), refl))) h u e
   copies_go_on (Unary t op) c ops vs below g' l' ws h u e = of_one (Unary t op) c ops vs below g' l' ws (λ vs. given_one l t (λ a. gives g l (value t (unary t op a) ∷ [])) vs (λ a. (refl, value t (unary t op a), refl))) h u e
-  copies_go_on (Compare t op) c ops vs below g' l' ws h u e = of_two (Compare t op) c ops vs below g' l' ws (λ vs. given_two l t t (λ b a. gives g l (values.I32 (bool_number (compare t op a b)) ∷ [])) vs (λ b a. (refl, values.I32 (bool_number (compare t op a b)), refl))) h u e
-  copies_go_on (Binary t op) c ops vs below g' l' ws h u e = of_two (Binary t op) c ops vs below g' l' ws (λ vs. given_two l t t (λ b a. divides (binary t op a b) (λ n. gives g l (value t n ∷ []))) vs (λ b a. given_divided l (binary t op a b) (λ n. gives g l (value t n ∷ [])) (λ n. (refl, value t n, refl)))) h u e
+  copies_go_on (Compare t op) c ops vs below g' l' ws h u e = of_two (Compare t op) c ops vs below g' l' ws (compare_gives t op) h u e
+  copies_go_on (Binary t op) c ops vs below g' l' ws h u e = of_two (Binary t op) c ops vs below g' l' ws (binary_gives t op) h u e
   copies_go_on (Convert k) c ops vs below g' l' ws h u e = of_one (Convert k) c ops vs below g' l' ws (λ vs. given_one l (convert_from k) (λ a. gives g l (value (convert_to k) (convert k a) ∷ [])) vs (λ a. (refl, value (convert_to k) (convert k a), refl))) h u e
   copies_go_on (Extend32 k) c ops vs below g' l' ws h u e = of_one (Extend32 k) c ops vs below g' l' ws (λ vs. given_one l I32 (λ a. gives g l (values.I32 (extend32 k a) ∷ [])) vs (λ a. (refl, values.I32 (extend32 k a), refl))) h u e
   copies_go_on (Extend64 k) c ops vs below g' l' ws h u e = of_one (Extend64 k) c ops vs below g' l' ws (λ vs. given_one l I64 (λ a. gives g l (values.I64 (extend64 k a) ∷ [])) vs (λ a. (refl, values.I64 (extend64 k a), refl))) h u e

@@ -164,14 +164,14 @@ basic_known os these c ops o i rest kd Ls g g' l l' vs below ws k u e =
       outside = outer_goes_on os these l l' g'.memory Ls k.outer o i rest k.inside d.0 (outer_longer os these l g.memory g'.memory Ls k.outer d.1 k.outside);
     }
 
--- a block is entered
-enters_known : (os : List ℕ) (these : ℕ → Bool) (l : List Value) (mem : Option Memory) (facts : List Fact) (outer : List (List Fact)) (ops : List Value) (inner rest : Nodes) (en : ℕ) (kd kd' : Kind) (Ls : List Label) → FactsHold l mem facts → Within these inner → Sound os these (others these facts) no_copies inner → Sound os these (others these facts) no_copies rest → Inside these Ls rest → KnownKind os these outer kd → KnownOuter os these l mem Ls outer → KnownKind os these (others these facts ∷ outer) kd' → KnownAt os these l mem no_copies [] inner kd' (label ops rest en kd ∷ Ls)
-enters_known os these l mem facts outer ops inner rest en kd kd' Ls h w si sr ir kk ko kn =
+-- a block is entered with these facts
+enters_known : (os : List ℕ) (these : ℕ → Bool) (l : List Value) (mem : Option Memory) (facts first : List Fact) (outer : List (List Fact)) (ops : List Value) (inner rest : Nodes) (en : ℕ) (kd kd' : Kind) (Ls : List Label) → FactsHold l mem facts → FactsHold l mem first → Within these inner → Sound os these first no_copies inner → Sound os these (others these facts) no_copies rest → Inside these Ls rest → KnownKind os these outer kd → KnownOuter os these l mem Ls outer → KnownKind os these (others these facts ∷ outer) kd' → KnownAt os these l mem no_copies [] inner kd' (label ops rest en kd ∷ Ls)
+enters_known os these l mem facts first outer ops inner rest en kd kd' Ls h hf w si sr ir kk ko kn =
     let kept = others_hold l mem these facts h in
     record {
-      facts = others these facts;
+      facts = first;
       outer = others these facts ∷ outer;
-      hold = kept;
+      hold = hf;
       copied = (tt, tt, tt);
       sound = si;
       inside = w;
@@ -328,18 +328,18 @@ module _ (M : Engine) where
     chooses_known c at t a ea b en rest [] k = tt
     chooses_known c at t a ea b en rest (values.I64 n ∷ vs) k = tt
     chooses_known c at t a ea b en rest (values.I32 zero ∷ vs) k =
-        ((no_copies, enters_known (os_of F) (these_of F) F.locals w.memory k.facts k.outer vs b rest L.end L.kind (leaves t) Ls k.hold k.sound.0.1 k.sound.1.1 k.sound.2 (inside_choose (these_of F) Ls at t a ea b en rest k.inside) k.kind_known k.outside tt), hs)
+        ((no_copies, enters_known (os_of F) (these_of F) F.locals w.memory k.facts (others (these_of F) k.facts) k.outer vs b rest L.end L.kind (leaves t) Ls k.hold (others_hold F.locals w.memory (these_of F) k.facts k.hold) k.sound.0.1 k.sound.1.1 k.sound.2 (inside_choose (these_of F) Ls at t a ea b en rest k.inside) k.kind_known k.outside tt), hs)
     chooses_known c at t a ea b en rest (values.I32 (suc n) ∷ vs) k =
-        ((no_copies, enters_known (os_of F) (these_of F) F.locals w.memory k.facts k.outer vs a rest L.end L.kind (leaves t) Ls k.hold k.sound.0.0 k.sound.1.0 k.sound.2 (inside_choose (these_of F) Ls at t a ea b en rest k.inside) k.kind_known k.outside tt), hs)
+        ((no_copies, enters_known (os_of F) (these_of F) F.locals w.memory k.facts k.facts k.outer vs a rest L.end L.kind (leaves t) Ls k.hold k.hold k.sound.0.0 k.sound.1.0 k.sound.2 (inside_choose (these_of F) Ls at t a ea b en rest k.inside) k.kind_known k.outside tt), hs)
 
     runs_known : (c : Copies) (nodes : Nodes) → At F w c L.operands nodes L.kind Ls → KnownStepped (runs M nodes F L Ls Fs w co)
     runs_known c stop k = moved_known (leave L.kind L.operands Ls) F Fs w co (leave_known (os_of F) (these_of F) F.locals w.memory L.kind L.operands Ls k.outer k.outside) hs
     runs_known c (basic o i rest) k = does_known c o i rest (cut (takes i) L.operands) k refl
     runs_known c (jump o j rest) k = jump_known o c j rest k
     runs_known c (block o t inner en rest) k =
-        ((no_copies, enters_known (os_of F) (these_of F) F.locals w.memory k.facts k.outer L.operands inner rest L.end L.kind (leaves t) Ls k.hold k.sound.0 k.sound.1 k.sound.2 (inside_block (these_of F) Ls o t inner en rest k.inside) k.kind_known k.outside tt), hs)
+        ((no_copies, enters_known (os_of F) (these_of F) F.locals w.memory k.facts k.facts k.outer L.operands inner rest L.end L.kind (leaves t) Ls k.hold k.hold k.sound.0 k.sound.1 k.sound.2 (inside_block (these_of F) Ls o t inner en rest k.inside) k.kind_known k.outside tt), hs)
     runs_known c (loop o t inner en rest) k =
-        ((no_copies, enters_known (os_of F) (these_of F) F.locals w.memory k.facts k.outer L.operands inner rest L.end L.kind (again o t inner en) Ls k.hold k.sound.0 k.sound.1 k.sound.2 (inside_loop (these_of F) Ls o t inner en rest k.inside) k.kind_known k.outside (k.sound.0, k.sound.1)), hs)
+        ((no_copies, enters_known (os_of F) (these_of F) F.locals w.memory k.facts (others (these_of F) k.facts) k.outer L.operands inner rest L.end L.kind (again o t inner en) Ls k.hold (others_hold F.locals w.memory (these_of F) k.facts k.hold) k.sound.0 k.sound.1 k.sound.2 (inside_loop (these_of F) Ls o t inner en rest k.inside) k.kind_known k.outside (k.sound.0, k.sound.1)), hs)
     runs_known c (choose o t a ea b en rest) k = chooses_known c o t a ea b en rest L.operands k
 
   labels_known : (F : Frame) (Ls : List Label) (Fs : List Frame) (w : World) (co : List CollectorCall) → KnownLabels (os_of F) (these_of F) F.locals w.memory Ls → KnownCallers M.program w.memory Fs → HasLeast M.program.module_.memories w.memory → KnownStepped (in_frame M Ls F Fs w co)

@@ -14,7 +14,7 @@ use Rattle.wasm_syntax.specs.declared.host.CollectorCall.{CollectorCall}
 use Rattle.wasm_syntax.specs.Effect.{takes}
 use Rattle.wasm_syntax.specs.Machine.{Frame, leaves, returns, label, frame, config, Engine, result_of}
 use Rattle.rewrite_bodies.specs.Numbering.{import_count, flag_of}
-use Rattle.rewrite_bodies.specs.calls.Slots.{Place, Landing, Ctx, less, pushed, grown, under, result_type, freed, after_plain, added, measured}
+use Rattle.rewrite_bodies.specs.calls.Slots.{Place, Landing, Derivation, Ctx, less, pushed, grown, under, result_type, freed, after_plain, added, measured}
 use Rattle.rewrite_bodies.specs.calls.Landings.{number_of, landing_behind, most_landings, at_end, unless_there, with_some, landing_call, landings_call, landings_jump, landings_from, landed, landing_at, part_of}
 use Rattle.rewrite_bodies.specs.calls.Rewrite.{rewrite, landing_code, nested, exit_code, blocks, laid}
 use Rattle.rewrite_bodies.specs.calls.Agreement.{l_labels, FitsIn, Room_call, Room_jump, Room, told_length, flagged}
@@ -67,9 +67,9 @@ few_landings C es (choose o t a ea b end rest) xs le =
 
 -- ---- the same room
 
-module _ (C : Ctx) (os : List ℕ) (xs : List Landing) where
+module _ (C : Ctx) (os : List ℕ) (xs : List Landing) (ds : List Derivation) where
   abbrev D : Ctx
-  D = landed C os xs
+  D = landed C os xs ds
 
   pub same_at : (es : List Place) (i : Basic) → (result_type C es i ≡ result_type D es i) × (after_plain C es i ≡ after_plain D es i)
   same_at es i = (result_alike C D es i refl refl, ap (λ (p : Option Place). pushed p (freed i (less (takes i) es))) (place_alike C D es i (treated i) refl refl))

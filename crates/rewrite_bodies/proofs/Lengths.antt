@@ -15,7 +15,7 @@ use Rattle.int_ops.specs.declared.operators.Binary.TheVariants.{Add, And, Or, Sh
 use Rattle.int_ops.specs.declared.operators.Compare.TheVariants.{Eq, GtU, GtS}
 use Rattle.wasm_syntax.specs.declared.instruction.Convert.TheVariants.{ExtendU}
 use Rattle.wasm_syntax.specs.declared.instruction.Basic.{Basic}
-use Rattle.wasm_syntax.specs.declared.instruction.Basic.TheVariants.{Select, LocalGet, LocalTee, GlobalGet, GlobalSet, Eqz, Compare, Binary, Convert}
+use Rattle.wasm_syntax.specs.declared.instruction.Basic.TheVariants.{Select, LocalGet, LocalSet, LocalTee, GlobalGet, GlobalSet, Eqz, Compare, Binary, Convert}
 use Rattle.wasm_syntax.specs.declared.parts.Limits.{Limits}
 use Rattle.wasm_syntax.specs.declared.module.ModuleParts.{ModuleParts as Module}
 use Rattle.wasm_syntax.specs.Access.{load_bits, store_bits}
@@ -28,6 +28,7 @@ use Rattle.rewrite_bodies.specs.calls.Rewrite.{hand_value, hand, hand_top, to_ex
 use Rattle.rewrite_bodies.specs.calls.Agreement.{FitsIn}
 use Rattle.rewrite_bodies.specs.calls.Length.{code_length, FewNumbers}
 use Rattle.wasm_leb.proofs.Lengths.{ten_bytes, ten_signed}
+use Rattle.rewrite_bodies.proofs.Risks.{Deriving, compares, combines}
 use Rattle.wasm_syntax.specs.calls.Classes.{Divider, by_div_s, by_div_u, by_rem_s, by_rem_u, Risky, risky_binary, risky_load, risky_store, risky_copy, risky_fill}
 
 -- ---- numbers
@@ -91,6 +92,10 @@ len_set_length src k =
 pub len_renewed : (ls : List Limits) (src : Module) (k : Nodes) → code_length (renewed ls src k) ≤ 20 + code_length k
 len_renewed [] src k = omega arith
 len_renewed (l ∷ ls) src k = len_set_length src k
+
+pub len_derives : (i : Basic) (k : Nodes) → Deriving i → code_length (basic 0 i k) ≡ 1 + code_length k
+len_derives i k (compares t op) = refl
+len_derives i k (combines t op) = refl
 
 pub len_branch : (l : ℕ) → code_length (jump 0 (Br l) stop) ≤ 11
 len_branch l = let s = ten_bytes l in omega (arith, s)
@@ -178,6 +183,13 @@ known_without these (Copied t x ∷ es) = let a = one_less (these x) in let z = 
 module _ (C : Ctx) (few : FewNumbers C) where
   local_four : (x : ℕ) → x < 2 * C.slots + 5 → length (unsigned_bytes (length C.locals + x)) ≤ 4
   local_four x lt = four_bytes (length C.locals + x) (omega (arith, few.locals, lt))
+
+  -- a local of the original
+  pub len_get_own : (x : ℕ) (k : Nodes) → x < length C.locals → code_length (basic 0 (LocalGet x) k) ≤ 5 + code_length k
+  len_get_own x k lt = let s = four_bytes x (omega (arith, few.locals, lt)) in omega (arith, s)
+
+  pub len_set_own : (x : ℕ) (k : Nodes) → x < length C.locals → code_length (basic 0 (LocalSet x) k) ≤ 5 + code_length k
+  len_set_own x k lt = let s = four_bytes x (omega (arith, few.locals, lt)) in omega (arith, s)
 
   pub len_get : (x : ℕ) (k : Nodes) → x < 2 * C.slots + 5 → code_length (get C x k) ≤ 5 + code_length k
   len_get x k lt = let s = local_four x lt in omega (arith, s)

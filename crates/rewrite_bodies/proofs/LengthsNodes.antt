@@ -3,11 +3,13 @@ use Rattle.rewrite_bodies.proofs.Laid.{same_at, room_landed}
 use Rattle.rewrite_bodies.proofs.Charges.{costs_of, charge, charge_at, charge_behind, charge_call, charged, charge_low, all_paid, charge_of}
 use Rattle.rewrite_bodies.specs.calls.Landings.{number_in, landing_of, one_kind, with_some, landing_call, landings_call, landings_jump, landings_from, landed, landing_at, needed, part_of}
 use Rattle.std.proofs.Common.{◌≡◌, ℕ, zero, suc, ◌==◌, ◌+◌, ◌*◌, ◌≤◌, nat_lt, List, [], ◌∷◌, ◌++◌, length, map, reverse, Option, Some, None, Bool, true, false, refl, sym, ap, ◌∙◌, subst, arith, slice_get, option_map, option_to_list, take, ◌⊎◌, inl, inr}
+use Rattle.std.specs.List.{AllByRecursion}
 use Rattle.std.proofs.lemmas.List.{length-reverse}
+use Rattle.std.proofs.lemmas.Option.{slice_get_within}
 use Rattle.wasm_syntax.specs.declared.value.ValType.{ValType}
 use Rattle.wasm_syntax.specs.declared.value.ValType.TheVariants.{I32}
 use Rattle.wasm_syntax.specs.declared.instruction.Basic.{Basic}
-use Rattle.wasm_syntax.specs.declared.instruction.Basic.TheVariants.{LocalGet, GlobalSet, MemoryGrow, Const, Eqz, Binary}
+use Rattle.wasm_syntax.specs.declared.instruction.Basic.TheVariants.{LocalGet, LocalSet, GlobalSet, MemoryGrow, Const, Eqz, Binary}
 use Rattle.wasm_syntax.specs.declared.parts.FuncType.{FuncType}
 use Rattle.wasm_syntax.specs.Tree.{Jump, Unreachable, Br, BrIf, BrTable, Return, Call, CallIndirect, Nodes, stop, basic, jump, block, loop, choose, IsTree}
 use Rattle.wasm_syntax.specs.Module.{type_at, function_types, option_then}
@@ -18,10 +20,10 @@ use Rattle.rewrite_bodies.specs.Numbering.{import_count, mapped, frame_import, f
 use Rattle.wasm_syntax.specs.Run.{table_min}
 use Rattle.wasm_syntax.specs.calls.Classes.{Risky}
 use Rattle.int_ops.specs.declared.operators.Binary.TheVariants.{Add}
-use Rattle.rewrite_bodies.specs.calls.Slots.{Place, place_type, Ctx, kind_at, offset_at, less, pushed, grown, under, result_place, freed, after_plain, behind_call, Landing, behind_jump, freed_at, local_written, measured}
+use Rattle.rewrite_bodies.specs.calls.Slots.{Place, place_type, Ctx, kind_at, offset_at, less, pushed, grown, under, result_place, freed, after_plain, behind_call, Landing, behind_jump, freed_at, local_written, measured, Derivation}
 use Rattle.rewrite_bodies.specs.calls.Pieces.{get, set, const, i32, call, if_any, load, keep, store, reload, drops}
 use Rattle.rewrite_bodies.specs.calls.Guards.{can_trap, kind, guard, measure, renew_both}
-use Rattle.rewrite_bodies.specs.calls.Rewrite.{passes, guarded, tested, free, plain, with_result, after_direct, call_code, helper_of, hand_top, test_flag, test_both, past_shown, indirect_code, control, rewrite, hand_locals, zero_result, raise_flag, exit_code, body, unwind_kind, checked, hand, hand_carried, landing_code, nested, laid, free_at, grows, lengthened}
+use Rattle.rewrite_bodies.specs.calls.Rewrite.{passes, guarded, tested, free, plain, with_result, after_direct, call_code, helper_of, hand_top, test_flag, test_both, past_shown, indirect_code, control, rewrite, hand_value, hand_locals, zero_result, raise_flag, worked_out, exit_code, body, unwind_kind, checked, hand, hand_carried, landing_code, nested, laid, free_at, grows, lengthened}
 use Rattle.rewrite_bodies.specs.calls.Agreement.{FitsIn, Room_call, Room}
 use Rattle.rewrite_bodies.specs.calls.Typed.{Info, in_block, in_loop, in_body, original}
 use Rattle.rewrite_bodies.specs.calls.Length.{basic_length, jump_length, else_length, code_length, node_weight, live_weight, FewNumbers, BodyShort, long_guard}
@@ -30,11 +32,13 @@ use Rattle.rewrite_bodies.proofs.Unwind.{less_shorter}
 use Rattle.rewrite_bodies.proofs.TypedNodes.{cuts, grown_types, takes_of, own_behind, behind_types, result_is, without_types, AllFine, all_fine_landed, fine_landings}
 use Rattle.rewrite_bodies.proofs.Copies.{Fixed, fixed_under, without_append}
 use Rattle.wasm_laws.proofs.Safe.{one_result}
-use Rattle.rewrite_bodies.proofs.Lengths.{len_const, len_call, len_global_set, len_measure, len_renew_both, len_lengthened, costs_twice, known, known-append, known_parts, known_grown, known_pushed, known_without, length_parts, len_get, len_fetched, len_load, len_hand_value, len_store, len_keep, len_keep_result, len_reload, len_drops, len_spill, len_unwind_kind, len_test_flag, len_test_both, len_guard, len_kind, len_set, len_branch, len_hand, len_landing}
+use Rattle.rewrite_bodies.proofs.Lengths.{len_get_own, len_set_own, len_derives, len_const, len_call, len_global_set, len_measure, len_renew_both, len_lengthened, costs_twice, known, known-append, known_parts, known_grown, known_pushed, known_without, length_parts, len_get, len_fetched, len_load, len_hand_value, len_store, len_keep, len_keep_result, len_reload, len_drops, len_spill, len_unwind_kind, len_test_flag, len_test_both, len_guard, len_kind, len_set, len_branch, len_hand, len_landing}
 use Rattle.wasm_leb.proofs.Lengths.{ten_bytes}
-use Rattle.rewrite_bodies.proofs.Risks.{risk_of, growth, Treated, gets, sets, tees, constant, spills, treated}
+use Rattle.rewrite_bodies.proofs.Risks.{risk_of, growth, Treated, gets, sets, tees, constant, spills, treated, derived_by}
 use Rattle.rewrite_bodies.specs.calls.Facts.{needs, exposed_in}
+use Rattle.rewrite_bodies.specs.calls.Derived.{Fitting, taken_type, given_type, derived_for}
 use Rattle.rewrite_bodies.proofs.FactLaws.{needs_trap}
+use Rattle.rewrite_bodies.proofs.DerivedLaws.{derived_fit, derived_few}
 
 -- so many are there to be taken
 taken_all : (n : ℕ) (own js : List Place) (taken below : List ValType) → length taken ≡ n → map place_type own ≡ taken ++ below → n ≤ length (take n (own ++ js))
@@ -342,27 +346,45 @@ module _ (C : Ctx) (few : FewNumbers C) where
 
     -- ---- bodies
 
-    locals_short : (x : ℕ) (ts : List ValType) (k : Nodes) → code_length (hand_locals C x ts k) ≤ 16 * length ts + code_length k
-    locals_short x [] k = omega arith
-    locals_short x (t ∷ ts) k =
+    locals_short : (x : ℕ) (ts : List ValType) (k : Nodes) → x + length ts ≤ length C.locals → code_length (hand_locals C x ts k) ≤ 10 * length ts + code_length k
+    locals_short x [] k le = omega arith
+    locals_short x (t ∷ ts) k le =
         let rest = hand_locals C (suc x) ts k in
-        let a = ten_bytes x in
+        let a = len_get_own C few x (hand_value C t rest) (omega (arith, le)) in
         let b = len_hand_value C few t rest in
-        let c = locals_short (suc x) ts k in
+        let c = locals_short (suc x) ts k (omega (arith, le)) in
         omega (arith, a, b, c)
+
+    derivations_short : (ds : List Derivation) (k : Nodes) → AllByRecursion (Fitting C.locals) ds → code_length (worked_out ds k) ≤ 16 * length ds + code_length k
+    derivations_short [] k fit = omega arith
+    derivations_short (d ∷ ds) k fit =
+        let rest = worked_out ds k in
+        let k2 = basic 0 (LocalSet d.made) rest in
+        let k1 = basic 0 d.instruction k2 in
+        let a = len_get_own C few d.left (basic 0 (LocalGet d.right) k1) (slice_get_within C.locals d.left (taken_type d.instruction) fit.0.left) in
+        let b = len_get_own C few d.right k1 (slice_get_within C.locals d.right (taken_type d.instruction) fit.0.right) in
+        let c = len_derives d.instruction k2 (derived_by d.instruction fit.0.derives) in
+        let e = len_set_own C few d.made rest (slice_get_within C.locals d.made (given_type d.instruction) fit.0.made) in
+        let f = derivations_short ds k fit.1 in
+        omega (arith, a, b, c, e, f)
 
     zero_short : (r : Option ValType) → code_length (zero_result r (jump 0 Return stop)) ≤ 12
     zero_short None = omega arith
     zero_short (Some t) = let a = len_const (zero_of t) (jump 0 Return stop) in omega (arith, a)
 
-    exit_short : code_length (exit_code C) ≤ 16 * length C.locals + 86
-    exit_short =
+    -- of the sixteen bytes of a local ten are used, so that three locals leave enough for one that is worked out
+    abbrev FewDerived : Type 0
+    FewDerived = AllByRecursion (Fitting C.locals) C.derivations × (3 * length C.derivations ≤ length C.locals)
+
+    exit_short : FewDerived → code_length (exit_code C) ≤ 16 * length C.locals + 86
+    exit_short derived =
         let k9 = zero_result C.result (jump 0 Return stop) in
         let k7 = raise_flag C k9 in
         let k6 = const (i32 (length C.locals)) (call (frame_import C.source) k7) in
         let k5 = get C (offset_at C) k6 in
         let k4 = const (i32 C.index) k5 in
-        let a = locals_short 0 C.locals (get C (kind_at C) k4) in
+        let a = locals_short 0 C.locals (get C (kind_at C) k4) (omega arith) in
+        let w = derivations_short C.derivations (hand_locals C 0 C.locals (get C (kind_at C) k4)) derived.0 in
         let b = len_get C few (kind_at C) k4 (omega arith) in
         let c = len_const (i32 C.index) k5 in
         let d = len_get C few (offset_at C) k6 (omega arith) in
@@ -371,7 +393,7 @@ module _ (C : Ctx) (few : FewNumbers C) where
         let g = len_const (i32 1) (basic 0 (GlobalSet (flag_of C.source)) k9) in
         let h = len_global_set (flag_of C.source) k9 in
         let i = zero_short C.result in
-        omega (arith, a, b, c, d, e, f, g, h, i)
+        omega (arith, a, b, c, d, e, f, g, h, i, w, derived.1)
 
     carried_short : (r : Option ValType) (k : Nodes) → code_length (hand_carried C r k) ≤ 5 + code_length k
     carried_short None k = omega arith
@@ -395,14 +417,14 @@ module _ (C : Ctx) (few : FewNumbers C) where
         let b = landing_short (length xs) x h.0.0 in
         omega (arith, a, b)
 
-    pub laid_short : (nodes : Nodes) → AllFine C C.landings → landings_from C [] nodes [] ≡ C.landings → IsTree nodes → Room C [] nodes → Types (original C (in_body C.result ∷ [])) nodes [] (option_to_list C.result) → code_length (laid C nodes) ≤ live_weight C [] nodes + (192 + 16 * length C.locals)
-    laid_short nodes fine all it rm ty =
+    pub laid_short : (nodes : Nodes) → AllFine C C.landings → FewDerived → landings_from C [] nodes [] ≡ C.landings → IsTree nodes → Room C [] nodes → Types (original C (in_body C.result ∷ [])) nodes [] (option_to_list C.result) → code_length (laid C nodes) ≤ live_weight C [] nodes + (192 + 16 * length C.locals)
+    laid_short nodes fine derived all it rm ty =
         let a = rewrite_short nodes (in_body C.result ∷ []) [] [] [] (option_to_list C.result) it tt refl rm ty in
         let b = nested_short C.landings (block 0 C.result (rewrite C 1 [] nodes) 0 (jump 0 Return stop)) fine in
         let c = all_paid C nodes all in
         let inner = nested C C.landings (block 0 C.result (rewrite C 1 [] nodes) 0 (jump 0 Return stop)) in
         let d = len_measure C few (measured C) (block 0 None inner 0 (exit_code C)) in
-        omega (arith, a, b, c, d, exit_short)
+        omega (arith, a, b, c, d, exit_short derived)
 
 type_in : (C : Ctx) (f : ℕ) (type : FuncType) → type_at C.source f ≡ Some type → (t : ℕ) × (slice_get C.source.types t ≡ Some type)
 type_in C f type e = inside (slice_get (function_types C.source) f) e
@@ -412,12 +434,12 @@ type_in C f type e = inside (slice_get (function_types C.source) f) e
     inside (Some t) e = (t, e)
 
 -- the landings do not depend on what landings are known
-module _ (C : Ctx) (ys : List Landing) where
+module _ (C : Ctx) (ys : List Landing) (ds : List Derivation) where
   same_called : (p : ℕ) (b : Bool) (o : Option FuncType) (es : List Place) (xs : List Landing) (go go' : List Place → List Landing → List Landing) → ((es' : List Place) (xs' : List Landing) → go es' xs' ≡ go' es' xs') → landings_call p b o es xs go ≡ landings_call p b o es xs go'
   same_called p b None es xs go go' f = refl
   same_called p b (Some type) es xs go go' f = f (grown (result_of type) (less (length type.params) es)) (landing_call p b (less (length type.params) es) xs)
 
-  same_jump : (p : ℕ) (j : Jump) (es : List Place) (xs : List Landing) (go go' : List Place → List Landing → List Landing) → ((es' : List Place) (xs' : List Landing) → go es' xs' ≡ go' es' xs') → landings_jump C p j es xs go ≡ landings_jump (landed C C.exposed ys) p j es xs go'
+  same_jump : (p : ℕ) (j : Jump) (es : List Place) (xs : List Landing) (go go' : List Place → List Landing → List Landing) → ((es' : List Place) (xs' : List Landing) → go es' xs' ≡ go' es' xs') → landings_jump C p j es xs go ≡ landings_jump (landed C C.exposed ys ds) p j es xs go'
   same_jump p Unreachable es xs go go' f = refl
   same_jump p (Br l) es xs go go' f = refl
   same_jump p (BrIf l) es xs go go' f = f (less 1 es) xs
@@ -426,27 +448,27 @@ module _ (C : Ctx) (ys : List Landing) where
   same_jump p (Call g) es xs go go' f = same_called p (nat_lt g (import_count C.source)) (type_at C.source g) es xs go go' f
   same_jump p (CallIndirect t) es xs go go' f = same_called p true (slice_get C.source.types t) (less 1 es) xs go go' f
 
-  same_landings : (es : List Place) (nodes : Nodes) (xs : List Landing) → landings_from C es nodes xs ≡ landings_from (landed C C.exposed ys) es nodes xs
+  same_landings : (es : List Place) (nodes : Nodes) (xs : List Landing) → landings_from C es nodes xs ≡ landings_from (landed C C.exposed ys ds) es nodes xs
   same_landings es stop xs = refl
   same_landings es (basic o i rest) xs =
-      same_landings (after_plain C es i) rest (with_some (landing_at C o i es) xs) ∙ ap (λ z. landings_from (landed C C.exposed ys) z rest (with_some (landing_at C o i es) xs)) (same_at C C.exposed ys es i).1
-  same_landings es (jump o j rest) xs = same_jump (part_of C.locals o) j es xs (λ es' xs'. landings_from C es' rest xs') (λ es' xs'. landings_from (landed C C.exposed ys) es' rest xs') (λ es' xs'. same_landings es' rest xs')
+      same_landings (after_plain C es i) rest (with_some (landing_at C o i es) xs) ∙ ap (λ z. landings_from (landed C C.exposed ys ds) z rest (with_some (landing_at C o i es) xs)) (same_at C C.exposed ys ds es i).1
+  same_landings es (jump o j rest) xs = same_jump (part_of C.locals o) j es xs (λ es' xs'. landings_from C es' rest xs') (λ es' xs'. landings_from (landed C C.exposed ys ds) es' rest xs') (λ es' xs'. same_landings es' rest xs')
   same_landings es (block o t inner end rest) xs =
-      same_landings (grown t (under es)) rest (landings_from C (under es) inner xs) ∙ ap (landings_from (landed C C.exposed ys) (grown t (under es)) rest) (same_landings (under es) inner xs)
+      same_landings (grown t (under es)) rest (landings_from C (under es) inner xs) ∙ ap (landings_from (landed C C.exposed ys ds) (grown t (under es)) rest) (same_landings (under es) inner xs)
   same_landings es (loop o t inner end rest) xs =
-      same_landings (grown t (under es)) rest (landings_from C (under es) inner xs) ∙ ap (landings_from (landed C C.exposed ys) (grown t (under es)) rest) (same_landings (under es) inner xs)
+      same_landings (grown t (under es)) rest (landings_from C (under es) inner xs) ∙ ap (landings_from (landed C C.exposed ys ds) (grown t (under es)) rest) (same_landings (under es) inner xs)
   same_landings es (choose o t a ea b end rest) xs =
       let left = under (less 1 es) in
       same_landings (grown t left) rest (landings_from C left b (landings_from C left a xs))
-      ∙ ap (landings_from (landed C C.exposed ys) (grown t left) rest) (same_landings left b (landings_from C left a xs) ∙ ap (landings_from (landed C C.exposed ys) left b) (same_landings left a xs))
+      ∙ ap (landings_from (landed C C.exposed ys ds) (grown t left) rest) (same_landings left b (landings_from C left a xs) ∙ ap (landings_from (landed C C.exposed ys ds) left b) (same_landings left a xs))
 
 -- nor does the weight on what is exposed
-module _ (C : Ctx) (os : List ℕ) (ys : List Landing) where
+module _ (C : Ctx) (os : List ℕ) (ys : List Landing) (ds : List Derivation) where
   same_behind : (o : Option FuncType) (es : List Place) (go go' : List Place → ℕ) → ((es' : List Place) → go es' ≡ go' es') → behind_call o es go ≡ behind_call o es go'
   same_behind None es go go' f = refl
   same_behind (Some type) es go go' f = f (grown (result_of type) (less (length type.params) es))
 
-  same_weights : (j : Jump) (es : List Place) (go go' : List Place → ℕ) → ((es' : List Place) → go es' ≡ go' es') → behind_jump C j es go ≡ behind_jump (landed C os ys) j es go'
+  same_weights : (j : Jump) (es : List Place) (go go' : List Place → ℕ) → ((es' : List Place) → go es' ≡ go' es') → behind_jump C j es go ≡ behind_jump (landed C os ys ds) j es go'
   same_weights Unreachable es go go' f = refl
   same_weights (Br l) es go go' f = refl
   same_weights (BrIf l) es go go' f = f (less 1 es)
@@ -455,11 +477,11 @@ module _ (C : Ctx) (os : List ℕ) (ys : List Landing) where
   same_weights (Call g) es go go' f = same_behind (type_at C.source g) es go go' f
   same_weights (CallIndirect t) es go go' f = same_behind (slice_get C.source.types t) (less 1 es) go go' f
 
-  same_weight : (es : List Place) (nodes : Nodes) → live_weight C es nodes ≡ live_weight (landed C os ys) es nodes
+  same_weight : (es : List Place) (nodes : Nodes) → live_weight C es nodes ≡ live_weight (landed C os ys ds) es nodes
   same_weight es stop = refl
   same_weight es (basic o i rest) =
-      ap (λ z. node_weight (basic_length i) (length es) + long_guard i + z) (same_weight (after_plain C es i) rest ∙ ap (λ z. live_weight (landed C os ys) z rest) (same_at C os ys es i).1)
-  same_weight es (jump o j rest) = ap (λ z. node_weight (jump_length j) (length es) + z) (same_weights j es (λ es'. live_weight C es' rest) (λ es'. live_weight (landed C os ys) es' rest) (λ es'. same_weight es' rest))
+      ap (λ z. node_weight (basic_length i) (length es) + long_guard i + z) (same_weight (after_plain C es i) rest ∙ ap (λ z. live_weight (landed C os ys ds) z rest) (same_at C os ys ds es i).1)
+  same_weight es (jump o j rest) = ap (λ z. node_weight (jump_length j) (length es) + z) (same_weights j es (λ es'. live_weight C es' rest) (λ es'. live_weight (landed C os ys ds) es' rest) (λ es'. same_weight es' rest))
   same_weight es (block o t inner end rest) = let a = same_weight (under es) inner in let b = same_weight (grown t (under es)) rest in omega (arith, a, b)
   same_weight es (loop o t inner end rest) = let a = same_weight (under es) inner in let b = same_weight (grown t (under es)) rest in omega (arith, a, b)
   same_weight es (choose o t a None b end rest) =
@@ -471,9 +493,11 @@ pub bodies_short : (C : Ctx) → BodyShort C
 bodies_short C nodes few results it rm ty =
     let of = λ (t : ℕ) (type : FuncType) (e : slice_get C.source.types t ≡ Some type). one_result type.results (results t type e) in
     let os = exposed_in C.source.memories nodes in
-    let C1 = landed C os [] in
+    let C1 = landed C os [] [] in
     let xs = landings_from C1 [] nodes [] in
-    let D = landed C os xs in
+    let ds = derived_for C.source C.index C.locals nodes in
+    let derived : AllByRecursion (Fitting C.locals) ds × (3 * length ds ≤ length C.locals) = (derived_fit C.source C.index C.locals nodes, derived_few C.source C.index C.locals nodes) in
+    let D = landed C os xs ds in
     let few' : FewNumbers D = record { locals = few.locals; imports = few.imports } in
-    let a : code_length (body C nodes) ≤ live_weight D [] nodes + (192 + 16 * length C.locals) = laid_short D few' (λ f type e. let t = type_in C f type e in of t.0 type t.1) of nodes (all_fine_landed C1 os xs xs (fine_landings C1 [] nodes [] tt (room_landed C os [] [] nodes rm) tt)) (sym (same_landings C1 xs [] nodes [])) it (room_landed C os xs [] nodes rm) ty in
-    subst (λ w. code_length (body C nodes) ≤ w + (192 + 16 * length C.locals)) (sym (same_weight C os xs [] nodes)) a
+    let a : code_length (body C nodes) ≤ live_weight D [] nodes + (192 + 16 * length C.locals) = laid_short D few' (λ f type e. let t = type_in C f type e in of t.0 type t.1) of nodes (all_fine_landed C1 os xs ds xs (fine_landings C1 [] nodes [] tt (room_landed C os [] [] [] nodes rm) tt)) derived (sym (same_landings C1 xs ds [] nodes [])) it (room_landed C os xs ds [] nodes rm) ty in
+    subst (λ w. code_length (body C nodes) ≤ w + (192 + 16 * length C.locals)) (sym (same_weight C os xs ds [] nodes)) a

@@ -7,6 +7,9 @@ pub mod Told
 pub mod Risks
 pub mod FactLaws
 pub mod KnownSteps
+pub mod DerivedFound
+pub mod DerivedLaws
+pub mod DerivedSteps
 pub mod Landed
 pub mod Laid
 pub mod OneKind
@@ -16,6 +19,7 @@ pub mod Copies
 pub mod Stays
 pub mod Sim
 pub mod Control
+pub mod WorkedOut
 pub mod Unwind
 pub mod Doubled
 pub mod Calls

@@ -36,7 +36,8 @@ use Rattle.rewrite_bodies.proofs.Run.{still, one_step, seq, weaken, push_to, add
 use Rattle.rewrite_bodies.proofs.Parts.{pages_are, step_plain}
 use Rattle.rewrite_bodies.proofs.Longer.{put_fits}
 use Rattle.rewrite_bodies.proofs.Risks.{growth}
-use Rattle.rewrite_bodies.proofs.Told.{remeasured, length_there, types_told, has_told, fits_told}
+use Rattle.rewrite_bodies.proofs.Passing.{FitsBut}
+use Rattle.rewrite_bodies.proofs.Told.{remeasured, length_there, types_told, has_told, over_told}
 
 -- ---- the added globals
 
@@ -222,9 +223,9 @@ module _ (M' : Engine) where
   types_lengthy false C n ex room = refl
   types_lengthy true C n ex room = types_told (measured C) C n ex room
 
-  pub fits_lengthy : (q : Bool) (C : Ctx) (l ex : List Value) (n : ℕ) (a : Option ValType) (Ls : List Label) (ss : List (List Place)) → length (joined ss) ≤ suc C.slots → FitsLabels C l ex a Ls ss → FitsLabels C l (lengthy q C n ex) a Ls ss
-  fits_lengthy false C l ex n a Ls ss low h = h
-  fits_lengthy true C l ex n a Ls ss low h = fits_told (measured C) C l ex n a Ls ss low h
+  pub over_lengthy : (q : Bool) (C : Ctx) (k : ℕ) (l ex : List Value) (n : ℕ) (a : Option ValType) (L : Label) (Ls : List Label) (e : List Place) (ss : List (List Place)) → length (e ++ joined ss) ≤ suc C.slots → FitsBut C k l ex a L Ls e ss → FitsBut C k l (lengthy q C n ex) a L Ls e ss
+  over_lengthy false C k l ex n a L Ls e ss low h = h
+  over_lengthy true C k l ex n a L Ls e ss low h = over_told (measured C) C k l ex n a L Ls e ss low h
 
   -- in a world before, and behind an instruction
   module _ (C : Ctx) (i : Basic) (before : World) (l l' vs ws : List Value) (g : World) (e : effect i before l vs ≡ gives g l' ws) where

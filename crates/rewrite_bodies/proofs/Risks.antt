@@ -4,12 +4,14 @@ use Rattle.wasm_syntax.specs.declared.value.ValType.{ValType}
 use Rattle.wasm_syntax.specs.declared.value.Value.{Value}
 use Rattle.int_ops.specs.declared.operators.Binary.{Binary as BinaryOp}
 use Rattle.int_ops.specs.declared.operators.Binary.TheVariants.{DivS, DivU, RemS, RemU, Add, Sub, Mul, And, Or, Xor, Shl, ShrS, ShrU, Rotl, Rotr}
+use Rattle.int_ops.specs.declared.operators.Compare.{Compare as CompareOp}
 use Rattle.wasm_syntax.specs.declared.instruction.Basic.{Basic}
 use Rattle.wasm_syntax.specs.declared.module.ModuleParts.{ModuleParts as Module}
 use Rattle.wasm_syntax.specs.declared.instruction.Basic.TheVariants.{Nop, Drop, Select, LocalGet, LocalSet, LocalTee, GlobalGet, GlobalSet, Load, Store, MemorySize, MemoryGrow, MemoryCopy, MemoryFill, Const, Eqz, Unary, Compare, Binary, Convert, Extend32, Extend64}
 use Rattle.wasm_syntax.specs.calls.Classes.{Divider, by_div_s, by_div_u, by_rem_s, by_rem_u, Risky, risky_binary, risky_load, risky_store, risky_copy, risky_fill, effect_class, local_of, TypeSource, DropsAny, SelectsAny, FromLocal, IntoLocal, TeesLocal, FromGlobal, IntoGlobal, OverMemory, OfItself, type_source}
 use Rattle.rewrite_bodies.specs.calls.Slots.{Place, Spilled, Copied, Ctx, second_type, result_type, result_place, local_written}
 use Rattle.rewrite_bodies.specs.calls.Guards.{divides, can_trap}
+use Rattle.rewrite_bodies.specs.calls.Derived.{derives}
 use Rattle.rewrite_bodies.specs.calls.Rewrite.{grows}
 use Rattle.rewrite_bodies.specs.calls.Landings.{division_kind, one_kind}
 use Rattle.wasm_syntax.proofs.Classes.{Computes}
@@ -111,6 +113,17 @@ growth (Binary t op) = inr refl
 growth (Convert c) = inr refl
 growth (Extend32 k) = inr refl
 growth (Extend64 k) = inr refl
+
+-- ---- those of which locals are worked out
+
+pub data Deriving : Basic → Type 0 where
+  compares : (t : ValType) (op : CompareOp) → Deriving (Compare t op)
+  combines : (t : ValType) (op : BinaryOp) → Deriving (Binary t op)
+
+pub derived_by : (i : Basic) → derives i ≡ true → Deriving i
+derived_by (Compare t op) e = compares t op
+derived_by (Binary t op) e = combines t op
+derived_by i e = absurd (cc)
 
 -- ---- the places behind an instruction
 

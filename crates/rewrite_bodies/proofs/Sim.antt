@@ -1,6 +1,6 @@
 -- Each step of the source is some steps of the target, to the image of the next configuration.
 -- what the rewritten module has for a function
-use Rattle.std.proofs.Common.{◌≡◌, ℕ, zero, suc, ◌≤◌, List, [], ◌∷◌, ◌++◌, length, Option, Some, None, Bool, true, false, refl, sym, ap, ◌∙◌, subst, subst₂, arith, ◌≢◌, slice_get, slice_set, option_map, length-append, ◌==◌, ◌+◌, ◌*◌}
+use Rattle.std.proofs.Common.{◌≡◌, ℕ, zero, suc, pred, ◌≤◌, List, [], ◌∷◌, ◌++◌, length, Option, Some, None, Bool, true, false, refl, sym, ap, ◌∙◌, subst, subst₂, arith, ◌≢◌, slice_get, slice_set, option_map, length-append, ◌==◌, ◌+◌, ◌*◌}
 use Rattle.wasm_syntax.specs.declared.value.ValType.{ValType}
 use Rattle.wasm_syntax.specs.declared.value.Value.{Value}
 use Rattle.wasm_syntax.specs.declared.value.Value.TheVariants as values
@@ -13,7 +13,7 @@ use Rattle.wasm_syntax.specs.declared.host.CollectorCall.{CollectorCall}
 use Rattle.wasm_syntax.specs.Effect.{gives, unfit, when, with_some, over, effect, takes}
 use Rattle.wasm_syntax.specs.Machine.{Kind, leaves, again, Label, Frame, Config, label, frame, config, Engine, next, parts, cut, affects, does, chooses}
 use Rattle.rewrite_bodies.specs.calls.Slots.{Place, Spilled, Known, Copied, Ctx, slot, added, less, pushed, grown, without, under, result_type, after_plain, length_at}
-use Rattle.rewrite_bodies.specs.calls.Rewrite.{tested, checked, guarded, with_result, passes, rewrite, grows, lengthened}
+use Rattle.rewrite_bodies.specs.calls.Rewrite.{tested, checked, guarded, with_result, spare, passes, rewrite, grows, lengthened}
 use Rattle.rewrite_bodies.specs.Numbering.{mapped, flag_of, global_types}
 use Rattle.std.proofs.lemmas.List.{length-map}
 use Rattle.rewrite_bodies.specs.calls.Pieces.{if_any, keep, spill}
@@ -23,12 +23,12 @@ use Rattle.rewrite_bodies.specs.calls.Steps.{To, Shell, st}
 use Rattle.rewrite_bodies.proofs.Run.{HasPlace, get_own, slice_get-put_same, types-slice_set, added_at, still, one_step, seq, weaken, get_to, put_to, tee_to}
 use Rattle.rewrite_bodies.specs.inner.Promises.{kind_of, verdict, Comes}
 use Rattle.rewrite_bodies.proofs.Parts.{Rel, framed, step_plain, types_get, set-append_left}
-use Rattle.rewrite_bodies.proofs.Passing.{needs_all, passes_some, loosened, kept_all, less_but, match_but, open_marked, stored_unless, types_unless, arrived, kept_unless, needs_measured}
+use Rattle.rewrite_bodies.proofs.Passing.{needs_all, spare_behind, loosened, put_on, kept_all, less_but, match_but, open_marked, stored_unless, types_unless, FitsBut, arrived_over, kept_unless, needs_measured}
 use Rattle.rewrite_bodies.proofs.Copies.{labels_fixed, fixed_under, fixed_holds, fits_within, without_append, without_length, spill_to, holds_set}
 use Rattle.wasm_syntax.proofs.Types.{same_type_is}
 use Rattle.rewrite_bodies.proofs.Guards.{guard_to}
 use Rattle.rewrite_bodies.proofs.Landed.{marked, types_marked, br_if_down, mark_to}
-use Rattle.rewrite_bodies.proofs.Measures.{lengthened_to, lengthy, types_lengthy, fits_lengthy, has_lengthy}
+use Rattle.rewrite_bodies.proofs.Measures.{lengthened_to, lengthy, types_lengthy, over_lengthy, has_lengthy}
 use Rattle.rewrite_bodies.specs.calls.Landings.{number_in, landing_of, part_of}
 use Rattle.rewrite_bodies.specs.calls.Offsets.{SmallOffset}
 use Rattle.std.specs.Prelude.{unwrap_or}
@@ -38,7 +38,7 @@ use Rattle.rewrite_bodies.proofs.FactLaws.{needs_trap}
 -- a frame with other locals, labels and places, under a call or not
 pub refit_under : {M : Engine} {E : ℕ} {gl : List ValType} {a : Doing} {ix cl : ℕ} {r : Option ValType} {l : List Value} {Ls : List Label} {w : Wit} (l' : List Value) (Ls' : List Label) (ex' : List Value) (ss' : List (List Place)) (others : Option UnderWay) (b : Doing) (cl' : ℕ) → FitsFrame M E gl a (frame ix r cl l Ls) w → types l' ≡ types l → types ex' ≡ types w.ex → FitsOpen w.ctx l' ex' b Ls' ss' → NoKind w.ctx ex' others → FitsFrame M E gl b (frame ix r cl' l' Ls') (record { ctx = w.ctx; ex = ex'; ss = ss'; under_way = others })
 refit_under l' Ls' ex' ss' others b cl' f ll le h nk =
-    record { size = ll ∙ f.size; room = le ∙ f.room; idx = f.idx; result = f.result; funcs = f.funcs; base = f.base; helpers = f.helpers; flag = f.flag; small = f.small; exposed = f.exposed; narrow = f.narrow; labels = h; no_kind = nk }
+    record { size = ll ∙ f.size; room = le ∙ f.room; idx = f.idx; result = f.result; funcs = f.funcs; base = f.base; helpers = f.helpers; flag = f.flag; small = f.small; exposed = f.exposed; derivations = f.derivations; few = f.few; narrow = f.narrow; labels = h; no_kind = nk }
 
 pub refit : {M : Engine} {E : ℕ} {gl : List ValType} {a : Doing} {ix cl : ℕ} {r : Option ValType} {l : List Value} {Ls : List Label} {w : Wit} (l' : List Value) (Ls' : List Label) (ex' : List Value) (ss' : List (List Place)) (b : Doing) (cl' : ℕ) → FitsFrame M E gl a (frame ix r cl l Ls) w → types l' ≡ types l → types ex' ≡ types w.ex → FitsOpen w.ctx l' ex' b Ls' ss' → FitsFrame M E gl b (frame ix r cl' l' Ls') (record { ctx = w.ctx; ex = ex'; ss = ss'; under_way = None })
 refit l' Ls' ex' ss' b cl' f ll le h = refit_under l' Ls' ex' ss' None b cl' f ll le h tt
@@ -182,25 +182,26 @@ module _ (M M' : Engine) (E : ℕ) (gl : List ValType) (W : Wrap) where
         let exm = behind_guard (needs C o i) i o in
         let te : types exm ≡ types ex = types_behind (needs C o i) i o f.room in
         let roomm : types exm ≡ added C.slots = te ∙ f.room in
-        let p0 = passes C (basic o i rest) in
+        let p0 = spare C (basic o i rest) in
+        let k0 = pred (spare C rest) in
         let h : FitsOpen C l exm (running g) (label ops (basic o i rest) en kd ∷ Ls) (e ∷ ss) = open_behind (needs C o i) i o (label ops (basic o i rest) en kd) Ls e ss low f.labels in
         let size = len_of l C.locals f.size in
-        let lh = less_but C p0 l exm (takes i) (joined ss) e ops vs below (passes_some C o i rest) h.0 c in
+        let lh = less_but C p0 k0 l exm (takes i) (joined ss) e ops vs below (spare_behind C o i rest) h.0 c in
         let e2 = lh.0 in
         let r1 = result_type C es i in
         let fl = flag_len C g (wf.globals ∙ sym f.flag) in
         let bs = values.I32 0 ∷ values.I64 (told_length g.memory) ∷ [] in
-        let fr = subst (λ z. Rel M gl r1 (can_trap i) l exm bs z (effect i g0 (l ++ exm) vs)) p (framed M gl C es l g exm bs f.size wf (sym f.flag) i vs (match_but C p0 l exm (takes i) (joined ss) e ops vs below (passes_some C o i rest) h.0 c)) in
-        let hb : FitsLabels C l exm r1 (label below rest en kd ∷ Ls) (e2 ∷ ss) = (lh.2, subst (FitsIn C r1) lh.1 rm.1, subst (λ z. Room C (grown r1 z) rest) lh.1 rm.2, h.3, h.4) in
+        let fr = subst (λ z. Rel M gl r1 (can_trap i) l exm bs z (effect i g0 (l ++ exm) vs)) p (framed M gl C es l g exm bs f.size wf (sym f.flag) i vs (match_but C p0 l exm (takes i) (joined ss) e ops vs below h.0 c)) in
+        let hb : FitsBut C k0 l exm r1 (label below rest en kd) Ls e2 ss = (lh.2, subst (FitsIn C r1) lh.1 rm.1, subst (λ z. Room C (grown r1 z) rest) lh.1 rm.2, h.3, h.4) in
         let pass = passes C rest in
         let n1 = told_length g'.memory in
         let exg = lengthy M' (grows i) C n1 exm in
         let tg : types exg ≡ types exm = types_lengthy M' (grows i) C n1 exm roomm in
         let roomg : types exg ≡ added C.slots = tg ∙ roomm in
         let lowb : length (e2 ++ joined ss) ≤ suc C.slots = omega (arith, grown_longer r1 (e2 ++ joined ss), room_height C (grown r1 (e2 ++ joined ss)) rest hb.2) in
-        let hg = fits_lengthy M' (grows i) C l exm n1 r1 (label below rest en kd ∷ Ls) (e2 ∷ ss) lowb hb in
+        let hg = over_lengthy M' (grows i) C k0 l exm n1 r1 (label below rest en kd) Ls e2 ss lowb hb in
         let hl = has_lengthy M' C i g l l' vs ws' g' p exm roomm h.1 in
-        let hs = arrived pass C l exg n1 r1 (label below rest en kd) Ls e2 ss ws' refl roomg fr.3 hl hg in
+        let hs = arrived_over pass C l exg n1 r1 (label below rest en kd) Ls e2 ss ws' refl roomg fr.3 hl hg in
         let k1 = rewrite C ls (grown r1 (e2 ++ joined ss)) rest in
         let pl = grown_fits C r1 (e2 ++ joined ss) exg roomg hb.1 in
         let ex2 = stored_unless pass r1 (λ t. slot C.slots t (length (e2 ++ joined ss))) ws' exg in
@@ -224,7 +225,7 @@ module _ (M M' : Engine) (E : ℕ) (gl : List ValType) (W : Wrap) where
     pub push_sim : (o : ℕ) (n : Value) (rest : Nodes) → FitsFrame M E gl (running g) (F (basic o (Const n) rest)) w → FitsFrames M E gl W.result r Fs ws → WorldFits M gl g → Comes M M' E gl W (tgt M W C ex e ss ws r l ops kd Ls Fs g co (basic o (Const n) rest)) (next (config (frame ix r cl l (label (n ∷ ops) rest en kd ∷ Ls) ∷ Fs) g co))
     push_sim o n rest f fs wf =
         let h = f.labels in
-        (wit C ex ((Known n ∷ e) ∷ ss) ∷ ws, (wf, (refit l (label (n ∷ ops) rest en kd ∷ Ls) ex ((Known n ∷ e) ∷ ss) (running g) cl f refl refl (loosened C (passes C rest) l ex (joined ss) (Known n ∷ e) (n ∷ ops) (refl, h.0), h.1, h.2.3, h.3, h.4), fs)), weaken M' (one_step M' _ _ refl) (omega arith) (omega (arith, f.small)))
+        (wit C ex ((Known n ∷ e) ∷ ss) ∷ ws, (wf, (refit l (label (n ∷ ops) rest en kd ∷ Ls) ex ((Known n ∷ e) ∷ ss) (running g) cl f refl refl (put_on C (spare C (basic o (Const n) rest)) (spare C rest) l ex (joined ss) e ops (Known n) n (omega (arith, spare_behind C o (Const n) rest)) refl h.0, h.1, h.2.3, h.3, h.4), fs)), weaken M' (one_step M' _ _ refl) (omega arith) (omega (arith, f.small)))
 
     copied_sim : (o x : ℕ) (v : Value) (rest : Nodes) → slice_get l x ≡ Some v → FitsFrame M E gl (running g) (F (basic o (LocalGet x) rest)) w → FitsFrames M E gl W.result r Fs ws → WorldFits M gl g → Comes M M' E gl W (tgt M W C ex e ss ws r l ops kd Ls Fs g co (basic o (LocalGet x) rest)) (next (config (frame ix r cl l (label (v ∷ ops) rest en kd ∷ Ls) ∷ Fs) g co))
     copied_sim o x v rest at f fs wf =
@@ -234,7 +235,7 @@ module _ (M M' : Engine) (E : ℕ) (gl : List ValType) (W : Wrap) where
         let rm : Room C (p ∷ es) rest = subst (λ z. Room C (pushed (option_map (λ t. Copied t x) z) es) rest) own h.2.3 in
         let s1 : To M' 1 1 (st X (l ++ ex) ops (basic 0 (LocalGet x) (rewrite C ls (p ∷ es) rest)) g0 co) (st X (l ++ ex) (v ∷ ops) (rewrite C ls (p ∷ es) rest) g0 co) = get_to M' x v (get_own l ex x v at) in (
           wit C ex ((p ∷ e) ∷ ss) ∷ ws,
-          (wf, (refit l (label (v ∷ ops) rest en kd ∷ Ls) ex ((p ∷ e) ∷ ss) (running g) cl f refl refl (loosened C (passes C rest) l ex (joined ss) (p ∷ e) (v ∷ ops) ((at, refl), h.0), h.1, rm, h.3, h.4), fs)),
+          (wf, (refit l (label (v ∷ ops) rest en kd ∷ Ls) ex ((p ∷ e) ∷ ss) (running g) cl f refl refl (put_on C (spare C (basic o (LocalGet x) rest)) (spare C rest) l ex (joined ss) e ops p v (omega (arith, spare_behind C o (LocalGet x) rest)) (at, refl) h.0, h.1, rm, h.3, h.4), fs)),
           subst (λ z. To M' 1 E (st X (l ++ ex) ops (basic 0 (LocalGet x) (keep (passes C rest) C (option_map (λ t. Copied t x) z) es (rewrite C ls (pushed (option_map (λ t. Copied t x) z) es) rest))) g0 co) (st X (l ++ ex) (v ∷ ops) (rewrite C ls (p ∷ es) rest) g0 co)) (sym own) (weaken M' s1 (omega arith) (omega (arith, f.small))),
         )
 
@@ -263,7 +264,7 @@ module _ (M M' : Engine) (E : ℕ) (gl : List ValType) (W : Wrap) where
         let s2 : To M' 1 1 (st X (l ++ ex1) ops (code (u ++ js)) g0 co) (st Y (l ++ ex1) [] inner_ g0 co) = one_step M' _ _ refl in
         let few : length e ≤ C.slots = omega (arith, length-append e js, h.2.0) in (
           wit C ex1 ([] ∷ u ∷ ss) ∷ ws,
-          (wf, (refit l _ ex1 ([] ∷ u ∷ ss) (running g) cl f refl s1.1 (loosened C (passes C inner) l ex1 (u ++ js) [] [] tt, (λ q. s1.2.1 ∙ h.1 q), subst (λ z. Room C z inner) sp h.2.1, tt, (own, subst (FitsIn C a) sp h.2.2, subst (λ z. Room C (grown a z) rest) sp h.2.3, h.3, outer)), fs)),
+          (wf, (refit l _ ex1 ([] ∷ u ∷ ss) (running g) cl f refl s1.1 (loosened C (spare C inner) l ex1 (u ++ js) [] [] tt, (λ q. s1.2.1 ∙ h.1 q), subst (λ z. Room C z inner) sp h.2.1, tt, (own, subst (FitsIn C a) sp h.2.2, subst (λ z. Room C (grown a z) rest) sp h.2.3, h.3, outer)), fs)),
           subst (λ z. To M' 1 E (st X (l ++ ex) ops (spill C (λ x. true) es (code z)) g0 co) (st Y (l ++ ex1) [] inner_ g0 co)) (sym sp) (weaken M' (seq M' s1.4 s2) (omega arith) (omega (arith, f.small, few))),
         )
 
@@ -286,7 +287,7 @@ module _ (M M' : Engine) (E : ℕ) (gl : List ValType) (W : Wrap) where
         let few : length e ≤ C.slots = omega (arith, length-append e js, h.2.0) in
         let lowu : length (u ++ js) ≤ C.slots = omega (arith, length-append e js, length-append u js, without_length (λ x. true) e, h.2.0) in (
           wit C ex1 ([] ∷ u ∷ ss) ∷ ws,
-          (wf, (refit l _ ex1 ([] ∷ u ∷ ss) (running g) cl f refl s1.1 (loosened C (passes C inner) l ex1 (u ++ js) [] [] tt, (λ q. s1.2.1 ∙ h.1 q), subst (λ z. Room C z inner) sp h.2.1, (lowu, subst (λ z. Room C z inner) sp h.2.1), (own, subst (FitsIn C a) sp h.2.2, subst (λ z. Room C (grown a z) rest) sp h.2.3, h.3, outer)), fs)),
+          (wf, (refit l _ ex1 ([] ∷ u ∷ ss) (running g) cl f refl s1.1 (loosened C (spare C inner) l ex1 (u ++ js) [] [] tt, (λ q. s1.2.1 ∙ h.1 q), subst (λ z. Room C z inner) sp h.2.1, (lowu, subst (λ z. Room C z inner) sp h.2.1), (own, subst (FitsIn C a) sp h.2.2, subst (λ z. Room C (grown a z) rest) sp h.2.3, h.3, outer)), fs)),
           subst (λ z. To M' 1 E (st X (l ++ ex) ops (spill C (λ x. true) es (code z)) g0 co) (st Y (l ++ ex1) [] inner_ g0 co)) (sym sp) (weaken M' (seq M' s1.4 s2) (omega arith) (omega (arith, f.small, few))),
         )
 
@@ -340,7 +341,7 @@ module _ (M M' : Engine) (E : ℕ) (gl : List ValType) (W : Wrap) where
         let s2 : To M' 1 1 (st Xv (l ++ ex1) (v ∷ ops) (basic 0 (LocalSet x) k1) gv co) (st Xv (l' ++ ex1) ops k1 gv co) =
         subst (λ z. To M' 1 1 (st Xv (l ++ ex1) (v ∷ ops) (basic 0 (LocalSet x) k1) gv co) (st Xv z ops k1 gv co)) (set-append_left l ex1 x v old at) (put_to M' x v old (get_own l ex1 x old at) ty) in (
           wit C ex1 (without these e ∷ ss) ∷ ws,
-          (wf, (refit l' (label ops rest en kd ∷ Ls) ex1 (without these e ∷ ss) (running g) cl f tl s1.1 (loosened C (passes C rest) l' ex1 js (without these e) ops s1.2, (λ q. s1.4 ∙ h.1 q), subst (λ z. Room C z rest) sp h.2.3, h.3, s1.3), fs)),
+          (wf, (refit l' (label ops rest en kd ∷ Ls) ex1 (without these e ∷ ss) (running g) cl f tl s1.1 (loosened C (spare C rest) l' ex1 js (without these e) ops s1.2, (λ q. s1.4 ∙ h.1 q), subst (λ z. Room C z rest) sp h.2.3, h.3, s1.3), fs)),
           subst (λ z. To M' 1 E (st Xv (l ++ ex) (v ∷ ops) (spill C these esv (basic 0 (LocalSet x) (rewrite C dv z rest))) gv co) (st Xv (l' ++ ex1) ops k1 gv co)) (sym sp) (weaken M' (seq M' s1.5 s2) (omega arith) (omega (arith, f.small, few))),
         )
 
@@ -369,7 +370,7 @@ module _ (M M' : Engine) (E : ℕ) (gl : List ValType) (W : Wrap) where
         subst (λ z. To M' 1 1 (st Xv (l ++ ex1) (v ∷ ops) (basic 0 (LocalTee x) k1) gv co) (st Xv z (v ∷ ops) k1 gv co)) (set-append_left l ex1 x v old at) (tee_to M' x v old (get_own l ex1 x old at) ty) in
         let rm : Room C (p ∷ (without these e ++ js)) rest = subst (λ z. Room C (p ∷ z) rest) sp (subst (λ q. Room C (pushed (option_map (λ t. Copied t x) q) (without these esv)) rest) own h.2.3) in (
           wit C ex1 ((p ∷ without these e) ∷ ss) ∷ ws,
-          (wf, (refit l' (label (v ∷ ops) rest en kd ∷ Ls) ex1 ((p ∷ without these e) ∷ ss) (running g) cl f tl s1.1 (loosened C (passes C rest) l' ex1 js (p ∷ without these e) (v ∷ ops) ((there, refl), own_holds), (λ q. s1.2.1 ∙ h.1 q), rm, h.3, outer), fs)),
+          (wf, (refit l' (label (v ∷ ops) rest en kd ∷ Ls) ex1 ((p ∷ without these e) ∷ ss) (running g) cl f tl s1.1 (loosened C (spare C rest) l' ex1 js (p ∷ without these e) (v ∷ ops) ((there, refl), own_holds), (λ q. s1.2.1 ∙ h.1 q), rm, h.3, outer), fs)),
           subst₂ (λ q z. To M' 1 E (st Xv (l ++ ex) (v ∷ ops) (code q z) gv co) (st Xv (l' ++ ex1) (v ∷ ops) k1 gv co)) (sym own) (sym sp) (weaken M' (seq M' s1.4 s2) (omega arith) (omega (arith, f.small, few))),
         )
 
@@ -395,7 +396,7 @@ module _ (M M' : Engine) (E : ℕ) (gl : List ValType) (W : Wrap) where
         let Y : Shell = record { idx = Xv.idx; result = Xv.result; kind = leaves a; below = label ops (behind (u ++ js)) 0 Xv.kind ∷ Xv.below; frames = Xv.frames } in
         let s2 : To M' 1 1 (st Xv (l ++ ex1) (v ∷ ops) (code (u ++ js)) gv co) (st Y (l ++ ex1) [] (rewrite C (suc dv) (u ++ js) arm) gv co) = enters ex1 (u ++ js) (behind (u ++ js)) in (
           wit C ex1 ([] ∷ u ∷ ss) ∷ ws,
-          (wf, (refit l _ ex1 ([] ∷ u ∷ ss) (running g) cl f refl s1.1 (loosened C (passes C arm) l ex1 (u ++ js) [] [] tt, (λ q. s1.2.1 ∙ h.1 q), subst (λ z. Room C z arm) sp rm, tt, (own, subst (FitsIn C a) sp h.2.3, subst (λ z. Room C (grown a z) rest) sp h.2.4, h.3, outer)), fs)),
+          (wf, (refit l _ ex1 ([] ∷ u ∷ ss) (running g) cl f refl s1.1 (loosened C (spare C arm) l ex1 (u ++ js) [] [] tt, (λ q. s1.2.1 ∙ h.1 q), subst (λ z. Room C z arm) sp rm, tt, (own, subst (FitsIn C a) sp h.2.3, subst (λ z. Room C (grown a z) rest) sp h.2.4, h.3, outer)), fs)),
           subst (λ z. To M' 1 E (st Xv (l ++ ex) (v ∷ ops) (spill C (λ x. true) esv (code z)) gv co) (st Y (l ++ ex1) [] (rewrite C (suc dv) (u ++ js) arm) gv co)) (sym sp) (weaken M' (seq M' s1.4 s2) (omega arith) (omega (arith, f.small, few))),
         )
 

@@ -12,12 +12,12 @@ use Rattle.wasm_syntax.specs.Machine.{Label, Engine, exactly}
 use Rattle.wasm_laws.proofs.Progress.{get_type}
 use Rattle.rewrite_bodies.specs.calls.Slots.{Place, Ctx, slot, length_at, measured, added}
 use Rattle.rewrite_bodies.specs.calls.Pieces.{reload}
-use Rattle.rewrite_bodies.specs.calls.Rewrite.{passes}
+use Rattle.rewrite_bodies.specs.calls.Rewrite.{spare}
 use Rattle.rewrite_bodies.specs.calls.Agreement.{HoldsBut, awaits, pending, joined, FitsIn, FitsLabels, FitsOpen, HasLength, Runs}
 use Rattle.rewrite_bodies.specs.calls.Steps.{To, Shell, st}
 use Rattle.rewrite_bodies.proofs.Run.{slice_get-put_same, slice_get-put_other, types-slice_set, added_length, length_no_slot, clear_length, stored, HasPlace, still, weaken, added_get, reload_to}
 use Rattle.rewrite_bodies.proofs.Parts.{fits_put}
-use Rattle.rewrite_bodies.proofs.Passing.{but_put}
+use Rattle.rewrite_bodies.proofs.Passing.{FitsBut, but_put}
 
 -- the added locals when it was read
 abbrev pub remeasured : Bool → Ctx → ℕ → List Value → List Value
@@ -51,15 +51,20 @@ pub fits_told : (q : Bool) (C : Ctx) (l ex : List Value) (n : ℕ) (a : Option V
 fits_told false C l ex n a Ls ss low h = h
 fits_told true C l ex n a Ls ss low h = fits_put C l ex a Ls ss (length_at C) (values.I64 n) (clear_length C (length (joined ss)) low) h
 
-but_told : (q : Bool) (C : Ctx) (p : Bool) (l ex : List Value) (n : ℕ) (js es : List Place) (ops : List Value) → length (es ++ js) ≤ suc C.slots → HoldsBut C p l ex js ops es → HoldsBut C p l (remeasured q C n ex) js ops es
+but_told : (q : Bool) (C : Ctx) (p : ℕ) (l ex : List Value) (n : ℕ) (js es : List Place) (ops : List Value) → length (es ++ js) ≤ suc C.slots → HoldsBut C p l ex js ops es → HoldsBut C p l (remeasured q C n ex) js ops es
 but_told false C p l ex n js es ops low h = h
 but_told true C p l ex n js es ops low h = but_put C p l ex js es ops (length_at C) (values.I64 n) (clear_length C (length (es ++ js)) low) h
+
+pub over_told : (q : Bool) (C : Ctx) (k : ℕ) (l ex : List Value) (n : ℕ) (a : Option ValType) (L : Label) (Ls : List Label) (e : List Place) (ss : List (List Place)) → length (e ++ joined ss) ≤ suc C.slots → FitsBut C k l ex a L Ls e ss → FitsBut C k l (remeasured q C n ex) a L Ls e ss
+over_told q C k l ex n a L Ls e ss low h =
+    let inner : length (joined ss) ≤ suc C.slots = omega (arith, low, length-append e (joined ss)) in
+    (but_told q C k l ex n (joined ss) e L.operands low h.0, h.1, h.2, h.3, fits_told q C [] ex n (awaits (pending L.kind)) Ls ss inner h.4)
 
 -- whatever length was there before
 pub open_told : (C : Ctx) (l ex : List Value) (m n : ℕ) (L : Label) (Ls : List Label) (e : List Place) (ss : List (List Place)) → types ex ≡ added C.slots → length (e ++ joined ss) ≤ C.slots → FitsOpen C l ex (Runs m) (L ∷ Ls) (e ∷ ss) → FitsOpen C l (remeasured (measured C) C n ex) (Runs n) (L ∷ Ls) (e ∷ ss)
 open_told C l ex m n L Ls e ss room low h =
     let inner : length (joined ss) ≤ suc C.slots = omega (arith, low, length-append e (joined ss)) in
-    (but_told (measured C) C (passes C L.nodes) l ex n (joined ss) e L.operands (omega (arith, low)) h.0, has_told C n ex room, h.2, h.3, fits_told (measured C) C [] ex n (awaits (pending L.kind)) Ls ss inner h.4)
+    (but_told (measured C) C (spare C L.nodes) l ex n (joined ss) e L.operands (omega (arith, low)) h.0, has_told C n ex room, h.2, h.3, fits_told (measured C) C [] ex n (awaits (pending L.kind)) Ls ss inner h.4)
 
 -- a result comes back from its slot
 module _ (M : Engine) (C : Ctx) (l : List Value) (size : length C.locals ≡ length l) where

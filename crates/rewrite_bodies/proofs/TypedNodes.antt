@@ -25,27 +25,29 @@ use Rattle.wasm_syntax.specs.Typing.{Context, Arrow, ◌⇒◌, BasicTypes, Jump
 use Rattle.wasm_syntax.specs.Typing as typing
 use Rattle.rewrite_bodies.specs.Numbering.{import_count, mapped, frame_import, frame_type, flag_of, doubles}
 use Rattle.wasm_syntax.specs.Run.{table_min}
-use Rattle.rewrite_bodies.specs.calls.Slots.{Place, Spilled, Known, Copied, place_type, Ctx, kind_at, offset_at, added, less, pushed, grown, uncopied, without, under, second_type, result_type, result_place, freed, after_plain, Landing, freed_at, local_written, measured}
+use Rattle.rewrite_bodies.specs.calls.Slots.{Place, Spilled, Known, Copied, place_type, Ctx, kind_at, offset_at, added, less, pushed, grown, uncopied, without, under, second_type, result_type, result_place, freed, after_plain, Landing, freed_at, local_written, measured, Derivation}
 use Rattle.rewrite_bodies.specs.calls.Pieces.{const, get, set, i32, call, if_any, fetch, load, keep, store, reload, drops}
 use Rattle.rewrite_bodies.specs.calls.Guards.{guard, can_trap, kind, helper_type, renew_both}
-use Rattle.rewrite_bodies.specs.calls.Rewrite.{passes, guarded, tested, free, plain, with_result, after_direct, call_code, helper_of, hand_top, test_both, past_shown, indirect_code, control, rewrite, hand_locals, zero_result, exit_code, body, checked, hand_carried, landing_code, nested, laid, free_at, grows, lengthened}
+use Rattle.rewrite_bodies.specs.calls.Rewrite.{passes, guarded, tested, free, plain, with_result, after_direct, call_code, helper_of, hand_top, test_both, past_shown, indirect_code, control, rewrite, hand_locals, zero_result, worked_out, exit_code, body, checked, hand_carried, landing_code, nested, laid, free_at, grows, lengthened}
 use Rattle.rewrite_bodies.specs.calls.Agreement.{FitsIn, Room_call, Room, Room_jump}
 use Rattle.rewrite_bodies.specs.calls.Typed.{Info, in_block, in_loop, in_body, carries, Own, AllOwn, Offers, original, rewritten}
 use Rattle.rewrite_bodies.proofs.Run.{added_kind, added_offset, slice_get-append}
 use Rattle.rewrite_bodies.proofs.Sim.{grown-append}
 use Rattle.rewrite_bodies.proofs.Unwind.{less_shorter}
-use Rattle.rewrite_bodies.proofs.TypedPieces.{Ok, ok_basic, ok_binary, ok_const, ok_eqz, IsExit, at_labels, ok_if, ok_call, ok_get, ok_set, ok_fetch, ok_load, ok_store, ok_keep, ok_keep_result, ok_reload, ok_drops, ok_spill, ok_hand_value, ok_tested, ok_test_flag, ok_test_both, ok_measure, ok_kind_signed, ok_landing, ok_branch, ok_hand, HasMemory, ok_renew, ok_lengthened}
+use Rattle.rewrite_bodies.proofs.TypedPieces.{Ok, ok_basic, ok_binary, ok_const, ok_eqz, IsExit, at_labels, ok_if, ok_call, ok_get, ok_set, ok_own, ok_set_own, ok_derives, ok_fetch, ok_load, ok_store, ok_keep, ok_keep_result, ok_reload, ok_drops, ok_spill, ok_hand_value, ok_tested, ok_test_flag, ok_test_both, ok_measure, ok_kind_signed, ok_landing, ok_branch, ok_hand, HasMemory, ok_renew, ok_lengthened}
 use Rattle.rewrite_bodies.proofs.TypedGuards.{any_has, one_is, guard_ok}
 use Rattle.rewrite_bodies.proofs.Copies.{Fixed, fixed_under, without_append, freed_append, pushed_append}
 use Rattle.wasm_laws.proofs.Progress.{takes_len}
 use Rattle.pm_text.proofs.Lists.{some_is, get_front}
 use Rattle.wasm_syntax.proofs.Types.{any_found, then_found, map_found, only_found}
-use Rattle.rewrite_bodies.proofs.Risks.{risk_of, growth, Treated, gets, sets, tees, constant, spills, treated, result_by, result_typed}
+use Rattle.rewrite_bodies.proofs.Risks.{risk_of, growth, Treated, gets, sets, tees, constant, spills, treated, result_by, result_typed, derived_by}
 use Rattle.wasm_syntax.specs.calls.Classes.{Divider, by_div_s, by_div_u, by_rem_s, by_rem_u, Risky, risky_binary, risky_load, risky_store, risky_copy, risky_fill}
 use Rattle.wasm_syntax.specs.calls.Classes.{TypeSource, DropsAny, SelectsAny, FromLocal, IntoLocal, TeesLocal, FromGlobal, IntoGlobal, OverMemory, OfItself, type_source, source_arrow, source_takes}
 use Rattle.wasm_syntax.proofs.Classes.{arrow_is, takes_is}
 use Rattle.rewrite_bodies.specs.calls.Facts.{needs, exposed_in}
+use Rattle.rewrite_bodies.specs.calls.Derived.{Fitting, taken_type, given_type, derived_for}
 use Rattle.rewrite_bodies.proofs.FactLaws.{needs_trap}
+use Rattle.rewrite_bodies.proofs.DerivedLaws.{derived_fit}
 
 -- ---- the operands that are taken, and those that are left
 
@@ -559,18 +561,18 @@ abbrev pub AllFine : Ctx → List Landing → Type 0
 AllFine C [] = Unit {0}
 AllFine C (x ∷ xs) = Fine C x × AllFine C xs
 
-own_landed : (C : Ctx) (os : List ℕ) (ys : List Landing) (e : Place) → Own C e → Own (landed C os ys) e
-own_landed C os ys (Spilled t) h = tt
-own_landed C os ys (Known v) h = tt
-own_landed C os ys (Copied t x) h = h
+own_landed : (C : Ctx) (os : List ℕ) (ys : List Landing) (ds : List Derivation) (e : Place) → Own C e → Own (landed C os ys ds) e
+own_landed C os ys ds (Spilled t) h = tt
+own_landed C os ys ds (Known v) h = tt
+own_landed C os ys ds (Copied t x) h = h
 
-all_own_landed : (C : Ctx) (os : List ℕ) (ys : List Landing) (es : List Place) → AllOwn C es → AllOwn (landed C os ys) es
-all_own_landed C os ys [] h = tt
-all_own_landed C os ys (e ∷ es) h = (own_landed C os ys e h.0, all_own_landed C os ys es h.1)
+all_own_landed : (C : Ctx) (os : List ℕ) (ys : List Landing) (ds : List Derivation) (es : List Place) → AllOwn C es → AllOwn (landed C os ys ds) es
+all_own_landed C os ys ds [] h = tt
+all_own_landed C os ys ds (e ∷ es) h = (own_landed C os ys ds e h.0, all_own_landed C os ys ds es h.1)
 
-pub all_fine_landed : (C : Ctx) (os : List ℕ) (ys xs : List Landing) → AllFine C xs → AllFine (landed C os ys) xs
-all_fine_landed C os ys [] h = tt
-all_fine_landed C os ys (x ∷ xs) h = ((h.0.0, all_own_landed C os ys x.places h.0.1), all_fine_landed C os ys xs h.1)
+pub all_fine_landed : (C : Ctx) (os : List ℕ) (ys : List Landing) (ds : List Derivation) (xs : List Landing) → AllFine C xs → AllFine (landed C os ys ds) xs
+all_fine_landed C os ys ds [] h = tt
+all_fine_landed C os ys ds (x ∷ xs) h = ((h.0.0, all_own_landed C os ys ds x.places h.0.1), all_fine_landed C os ys ds xs h.1)
 
 module _ (C : Ctx) where
   fine_append : (x : Landing) (xs : List Landing) → Fine C x → AllFine C xs → AllFine C (xs ++ x ∷ [])
@@ -669,11 +671,19 @@ module _ (C : Ctx) (m : Module) (locals : List ValType) (off : Offers C m locals
       let e : arrow (at_body labels) I32 (GlobalSet (flag_of C.source)) ≡ Some (I32 ∷ [] ⇒ []) = rw (off.flag_there, off.flag_mutable, off.flag_type) refl in
       ok_basic s (GlobalSet (flag_of C.source)) I32 (I32 ∷ [] ⇒ []) e h
 
-  exit_ok : (labels : List (List ValType)) → Ok (at_body labels) returns [] (exit_code C)
-  exit_ok labels =
-      hand_locals_ok labels returns C.locals [] _ refl
+  worked_out_ok : (labels : List (List ValType)) (z : List ValType) (ds : List Derivation) (k : Nodes) → AllByRecursion (Fitting C.locals) ds → Ok (at_body labels) z [] k → Ok (at_body labels) z [] (worked_out ds k)
+  worked_out_ok labels z [] k f h = h
+  worked_out_ok labels z (d ∷ ds) k f h =
+      let set_ = ok_set_own C m locals off returns d.made (given_type d.instruction) f.0.made (worked_out_ok labels z ds k f.1 h) in
+      let both = ok_derives d.instruction (derived_by d.instruction f.0.derives) set_ in
+      ok_own C m locals off returns d.left (taken_type d.instruction) f.0.left (ok_own C m locals off returns d.right (taken_type d.instruction) f.0.right both)
+
+  exit_ok : (labels : List (List ValType)) → AllByRecursion (Fitting C.locals) C.derivations → Ok (at_body labels) returns [] (exit_code C)
+  exit_ok labels fit =
+      worked_out_ok labels returns C.derivations _ fit
+      (hand_locals_ok labels returns C.locals [] _ refl
       (ok_get C m locals off returns (kind_at C) I32 (added_kind C.slots) (ok_const (i32 C.index) (ok_get C m locals off returns (offset_at C) I32 (added_offset C.slots) (ok_const (i32 (length C.locals))
-      (ok_call [] (frame_import C.source) frame_type off.frames (ok_const (i32 1) (set_flag (zero_ok labels returns C.result refl))))))))
+      (ok_call [] (frame_import C.source) frame_type off.frames (ok_const (i32 1) (set_flag (zero_ok labels returns C.result refl)))))))))
 
   -- ---- landings
 
@@ -690,20 +700,21 @@ module _ (C : Ctx) (m : Module) (locals : List ValType) (off : Offers C m locals
       nested_ok xs (block 0 x.carried inner 0 (landing_code C (length xs) x)) h.1
       (λ z. let labels = outside C m locals off returns xs in let k : Ok (at_body labels) z (option_to_list x.carried ++ []) (landing_code C (length xs) x) = subst (λ s. Ok (at_body labels) z s (landing_code C (length xs) x)) (sym (append-nil (option_to_list x.carried))) (landing_ok (length xs) labels z x (outside_exit C m locals off returns xs) h.0) in record { typed = ((g (option_to_list x.carried)).typed, k.typed) })
 
-  pub laid_ok : (nodes : Nodes) → AllFine C C.landings → Room C [] nodes → Types (original C (in_body C.result ∷ [])) nodes [] returns → Types (rewritten C m locals) (laid C nodes) [] returns
-  laid_ok nodes fine rm ty =
+  pub laid_ok : (nodes : Nodes) → AllFine C C.landings → AllByRecursion (Fitting C.locals) C.derivations → Room C [] nodes → Types (original C (in_body C.result ∷ [])) nodes [] returns → Types (rewritten C m locals) (laid C nodes) [] returns
+  laid_ok nodes fine fit rm ty =
       let a = rewrite_ok C m locals off returns refl nodes (in_body C.result ∷ []) [] [] [] returns refl tt tt rm ty in
       let core = nested_ok C.landings (block 0 C.result (rewrite C 1 [] nodes) 0 (jump 0 Return stop)) fine (λ z. record { typed = (a.typed, (subst (λ s. Ok (at_body (outside C m locals off returns C.landings)) z s (jump 0 Return stop)) (sym (append-nil returns)) ok_return).typed) }) in
-      (ok_measure C m locals off returns (measured C) (record { typed = (core.typed, (exit_ok (returns ∷ [])).typed) })).typed
+      (ok_measure C m locals off returns (measured C) (record { typed = (core.typed, (exit_ok (returns ∷ []) fit).typed) })).typed
 
 -- the rewritten module offers the same with landings
-pub offers_landed : (C : Ctx) (m : Module) (locals : List ValType) (os : List ℕ) (xs : List Landing) → Offers C m locals → Offers (landed C os xs) m locals
-offers_landed C m locals os xs off =
+pub offers_landed : (C : Ctx) (m : Module) (locals : List ValType) (os : List ℕ) (xs : List Landing) (ds : List Derivation) → Offers C m locals → Offers (landed C os xs ds) m locals
+offers_landed C m locals os xs ds off =
     record { locals_are = off.locals_are; globals = off.globals; flag = off.flag; flag_there = off.flag_there; flag_type = off.flag_type; flag_mutable = off.flag_mutable; length_ = off.length_; length_there = off.length_there; length_type = off.length_type; length_mutable = off.length_mutable; memories = off.memories; tables = off.tables; types = off.types; functions = off.functions; values = off.values; frames = off.frames; helpers = off.helpers; one_result = off.one_result; one_result_of = off.one_result_of }
 
 pub body_ok : (C : Ctx) (m : Module) (locals : List ValType) → Offers C m locals → (nodes : Nodes) → Room C [] nodes → Types (original C (in_body C.result ∷ [])) nodes [] (option_to_list C.result) → Types (rewritten C m locals) (body C nodes) [] (option_to_list C.result)
 body_ok C m locals off nodes rm ty =
     let os = exposed_in C.source.memories nodes in
-    let C1 = landed C os [] in
+    let C1 = landed C os [] [] in
     let xs = landings_from C1 [] nodes [] in
-    laid_ok (landed C os xs) m locals (offers_landed C m locals os xs off) nodes (all_fine_landed C1 os xs xs (fine_landings C1 [] nodes [] tt (room_landed C os [] [] nodes rm) tt)) (room_landed C os xs [] nodes rm) ty
+    let ds = derived_for C.source C.index C.locals nodes in
+    laid_ok (landed C os xs ds) m locals (offers_landed C m locals os xs ds off) nodes (all_fine_landed C1 os xs ds xs (fine_landings C1 [] nodes [] tt (room_landed C os [] [] [] nodes rm) tt)) (derived_fit C.source C.index C.locals nodes) (room_landed C os xs ds [] nodes rm) ty

@@ -29,6 +29,8 @@ use Rattle.rewrite_bodies.specs.calls.Agreement.{FitsIn}
 use Rattle.rewrite_bodies.specs.calls.Typed.{Own, AllOwn, Offers}
 use Rattle.pm_text.proofs.Lists.{get_front}
 use Rattle.rewrite_bodies.proofs.Run.{slice_get-append, added_at, added_kind, added_offset, added_length}
+use Rattle.rewrite_bodies.specs.calls.Derived.{taken_type, given_type}
+use Rattle.rewrite_bodies.proofs.Risks.{Deriving, compares, combines}
 
 -- the nodes take these types to those
 pub record Ok (c : Context) (after before : List ValType) (nodes : Nodes) : Type 0 where
@@ -51,6 +53,10 @@ ok_binary {s = s} t op h = ok_basic s (Binary t op) I32 (t ∷ t ∷ [] ⇒ t �
 
 ok_compare : {c : Context} {z s : List ValType} {k : Nodes} (t : ValType) (op : _) → Ok c z (I32 ∷ s) k → Ok c z (t ∷ t ∷ s) (basic 0 (Compare t op) k)
 ok_compare {s = s} t op h = ok_basic s (Compare t op) I32 (t ∷ t ∷ [] ⇒ I32 ∷ []) refl h
+
+pub ok_derives : {c : Context} {z s : List ValType} {k : Nodes} (i : Basic) → Deriving i → Ok c z (given_type i ∷ s) k → Ok c z (taken_type i ∷ taken_type i ∷ s) (basic 0 i k)
+ok_derives i (compares t op) h = ok_compare t op h
+ok_derives i (combines t op) h = ok_binary t op h
 
 ok_extend : {c : Context} {z s : List ValType} {k : Nodes} → Ok c z (I64 ∷ s) k → Ok c z (I32 ∷ s) (basic 0 (Convert ExtendU) k)
 ok_extend {s = s} h = ok_basic s (Convert ExtendU) I32 (I32 ∷ [] ⇒ I64 ∷ []) refl h
@@ -111,8 +117,11 @@ module _ (C : Ctx) (m : Module) (locals : List ValType) (off : Offers C m locals
   ok_set {s = s} x t e h = ok_basic s (LocalSet (length C.locals + x)) I32 (t ∷ [] ⇒ []) (ap (option_map (λ u. u ∷ [] ⇒ [])) (local_is x t e)) h
 
   -- a local of the original
-  ok_own : {labels : List (List ValType)} {z s : List ValType} {k : Nodes} (x : ℕ) (t : ValType) → slice_get C.locals x ≡ Some t → Ok (at labels) z (t ∷ s) k → Ok (at labels) z s (basic 0 (LocalGet x) k)
+  pub ok_own : {labels : List (List ValType)} {z s : List ValType} {k : Nodes} (x : ℕ) (t : ValType) → slice_get C.locals x ≡ Some t → Ok (at labels) z (t ∷ s) k → Ok (at labels) z s (basic 0 (LocalGet x) k)
   ok_own {s = s} x t e h = ok_basic s (LocalGet x) I32 ([] ⇒ t ∷ []) (ap (λ (ls : List ValType). option_map (λ u. [] ⇒ u ∷ []) (slice_get ls x)) off.locals_are ∙ ap (option_map (λ u. [] ⇒ u ∷ [])) (get_front C.locals (added C.slots) x t e)) h
+
+  pub ok_set_own : {labels : List (List ValType)} {z s : List ValType} {k : Nodes} (x : ℕ) (t : ValType) → slice_get C.locals x ≡ Some t → Ok (at labels) z s k → Ok (at labels) z (t ∷ s) (basic 0 (LocalSet x) k)
+  ok_set_own {s = s} x t e h = ok_basic s (LocalSet x) I32 (t ∷ [] ⇒ []) (ap (λ (ls : List ValType). option_map (λ u. u ∷ [] ⇒ []) (slice_get ls x)) off.locals_are ∙ ap (option_map (λ u. u ∷ [] ⇒ [])) (get_front C.locals (added C.slots) x t e)) h
 
   ok_tee : {labels : List (List ValType)} {z s : List ValType} {k : Nodes} (x : ℕ) (t : ValType) → slice_get (added C.slots) x ≡ Some t → Ok (at labels) z (t ∷ s) k → Ok (at labels) z (t ∷ s) (basic 0 (LocalTee (length C.locals + x)) k)
   ok_tee {s = s} x t e h = ok_basic s (LocalTee (length C.locals + x)) I32 (t ∷ [] ⇒ t ∷ []) (ap (option_map (λ u. u ∷ [] ⇒ u ∷ [])) (local_is x t e)) h

@@ -16,7 +16,7 @@ use Rattle.wasm_syntax.specs.Machine.{Kind, returns, Label, Frame, Config, label
 use Rattle.rewrite_bodies.specs.calls.Slots.{Place, Spilled, place_type, Landing, Ctx, slot, kind_at, offset_at, added, less, grown, measured}
 use Rattle.rewrite_bodies.specs.Numbering.{mapped, value_import, frame_import, flag_of, global_types}
 use Rattle.rewrite_bodies.specs.calls.Pieces.{get, set, const, call, if_any, fetch, keep, store, reload, drops}
-use Rattle.rewrite_bodies.specs.calls.Rewrite.{hand_value, hand, hand_top, to_exit, unwind, hand_left, test_flag, test_both, passes, rewrite, hand_locals, zero_result, raise_flag, exit_code, checked, get_flag, hand_carried, landing_code}
+use Rattle.rewrite_bodies.specs.calls.Rewrite.{hand_value, hand, hand_top, to_exit, unwind, hand_left, test_flag, test_both, passes, rewrite, hand_locals, zero_result, raise_flag, exit_code, worked_out, checked, get_flag, hand_carried, landing_code}
 use Rattle.rewrite_bodies.specs.calls.Agreement.{One, Holds, awaits, pending, joined, t_kind, t_labels, Wit, UnderWay, FitsLabels, WorldFits, FitsFrame, FitsFrames, Wrap, w_frame, zero_vs, last_result, t_frames, flagged, told_length, Waits}
 use Rattle.rewrite_bodies.specs.calls.Steps.{Gets, To, Shell, st}
 use Rattle.rewrite_bodies.proofs.Run.{if_same, stored, stored_other, kind_no_slot, clear_slot, types-stored, slice_get-put_same, slice_get-put_other, types-slice_set, added_kind, added_offset, still, one_step, seq, weaken, push_to, get_to, added_get, added_set, fetch_to, store_to}
@@ -30,6 +30,8 @@ use Rattle.rewrite_bodies.proofs.Control.{top_exact, flag_to, both_to}
 use Rattle.rewrite_bodies.proofs.Measures.{get_first, put_first}
 use Rattle.rewrite_bodies.proofs.Landed.{exit_branch, land_branch, mark_to}
 use Rattle.rewrite_bodies.specs.calls.Landings.{number_of, landing_behind, part_of}
+use Rattle.rewrite_bodies.specs.calls.Derived.{DerivedCaller, DerivedCallers}
+use Rattle.rewrite_bodies.proofs.WorkedOut.{Ready, frame_ready, worked_to}
 use Rattle.rewrite_bodies.specs.calls.Guards.{measure, renew_both}
 use Rattle.wasm_syntax.proofs.Types.{same_type_is}
 use Rattle.rewrite_bodies.specs.calls.Standing.{Speaks}
@@ -163,8 +165,8 @@ module _ (M' : Engine) (C : Ctx) (sp : Speaks M' C.source) where
       To M' 0 (2 * C.slots + 10) (st (record { idx = mapped C.source C.index; result = C.result; kind = K; below = B; frames = FR }) (l ++ ex) [] H (flagged M g (values.I32 b)) co) (st (record { idx = mapped C.source C.index; result = C.result; kind = K; below = B; frames = FR }) (l ++ ex) [] (jump 0 (Br (suc n)) stop) (flagged M g (values.I32 b)) (tell_labels Ls co))
 
   -- behind the exit block a frame hands over its locals and returns with the flag up
-  exit_out : (M : Engine) (l : List Value) (lt : types l ≡ C.locals) (ex : List Value) (FR : List Frame) (g : World) (b : ℕ) (co : List CollectorCall) (o k : ℕ) → slice_get ex (kind_at C) ≡ Some (values.I32 k) → slice_get ex (offset_at C) ≡ Some (values.I32 o) → types g.globals ≡ global_types C.source → Gets M' 1 (2 * length C.locals + 10) (st (record { idx = mapped C.source C.index; result = C.result; kind = returns C.result; below = []; frames = FR }) (l ++ ex) [] (exit_code C) (flagged M g (values.I32 b)) co) (deliver M' (zero_vs C.result) FR (flagged M g (values.I32 1)) (collector_calls.Frame k C.index o (length C.locals) ∷ tell_locals l co))
-  exit_out M l lt ex FR g b co o k kd off gt =
+  exit_out : (M : Engine) (l : List Value) (lt : types l ≡ C.locals) → Ready C l → (ex : List Value) (FR : List Frame) (g : World) (b : ℕ) (co : List CollectorCall) (o k : ℕ) → slice_get ex (kind_at C) ≡ Some (values.I32 k) → slice_get ex (offset_at C) ≡ Some (values.I32 o) → types g.globals ≡ global_types C.source → Gets M' 1 (4 * length C.locals + 10) (st (record { idx = mapped C.source C.index; result = C.result; kind = returns C.result; below = []; frames = FR }) (l ++ ex) [] (exit_code C) (flagged M g (values.I32 b)) co) (deliver M' (zero_vs C.result) FR (flagged M g (values.I32 1)) (collector_calls.Frame k C.index o (length C.locals) ∷ tell_locals l co))
+  exit_out M l lt rd ex FR g b co o k kd off gt =
       let size = len_of l C.locals lt in
       let nl = values.I32 (length C.locals) in
       let fl = flag_len C g gt in
@@ -176,18 +178,19 @@ module _ (M' : Engine) (C : Ctx) (sp : Speaks M' C.source) where
       let k9 = zero_result C.result (jump 0 Return stop) in
       let k7 = call (frame_import C.source) (raise_flag C k9) in
       let k3 = get C (kind_at C) (const (values.I32 C.index) (get C (offset_at C) (const nl k7))) in
-      let a4 : To M' 0 (2 * length l) (st X2 (l ++ ex) [] (exit_code C) g0 co) (st X2 (l ++ ex) [] k3 g0 co2) =
+      let a3 : To M' 0 (4 * length C.derivations) (st X2 (l ++ ex) [] (exit_code C) g0 co) (st X2 (l ++ ex) [] (hand_locals C 0 C.locals k3) g0 co) = worked_to M' l ex C.derivations (hand_locals C 0 C.locals k3) rd.derived in
+      let a4 : To M' 0 (2 * length l) (st X2 (l ++ ex) [] (hand_locals C 0 C.locals k3) g0 co) (st X2 (l ++ ex) [] k3 g0 co2) =
       subst (λ m. To M' 0 (2 * length l) (st X2 (l ++ ex) [] (hand_locals C 0 m k3) g0 co) (st X2 (l ++ ex) [] k3 g0 co2)) lt (locals_to ex l [] k3) in
       let a5 : To M' 1 1 (st X2 (l ++ ex) [] k3 g0 co2) (st X2 (l ++ ex) (values.I32 k ∷ []) (const (values.I32 C.index) (get C (offset_at C) (const nl k7))) g0 co2) = added_get M' C l size ex (kind_at C) (values.I32 k) kd in
       let a6 : To M' 1 1 (st X2 (l ++ ex) (values.I32 C.index ∷ values.I32 k ∷ []) (get C (offset_at C) (const nl k7)) g0 co2) (st X2 (l ++ ex) (values.I32 o ∷ values.I32 C.index ∷ values.I32 k ∷ []) (const nl k7) g0 co2) = added_get M' C l size ex (offset_at C) (values.I32 o) off in
       let bytes = values.I64 (told_length g.memory) ∷ [] in
       let put_ : slice_set g0.globals (flag_of C.source) (values.I32 1) ≡ g.globals ++ values.I32 1 ∷ bytes = put_first g.globals (flag_of C.source) (values.I32 b) (values.I32 1) bytes fl in
       let a7 : To M' 1 1 (st X2 (l ++ ex) (values.I32 1 ∷ []) (basic 0 (GlobalSet (flag_of C.source)) k9) g0 co3) (st X2 (l ++ ex) [] k9 g1 co3) = step_plain M' (GlobalSet (flag_of C.source)) (values.I32 1 ∷ []) [] (l ++ ex) g1 [] [] refl (rw (get_first g.globals (flag_of C.source) (values.I32 b) bytes fl, put_) refl) refl in
-      weaken M' (seq M' a4 (seq M' a5 (seq M' (push_to M' (values.I32 C.index)) (seq M' a6 (seq M' (push_to M' nl) (seq M' (entry_to M' C.source sp k C.index o (length C.locals)) (seq M' (push_to M' (values.I32 1)) (seq M' a7 (zero_out {X = X2} C.result refl))))))))) (omega arith) (omega (arith, size))
+      weaken M' (seq M' a3 (seq M' a4 (seq M' a5 (seq M' (push_to M' (values.I32 C.index)) (seq M' a6 (seq M' (push_to M' nl) (seq M' (entry_to M' C.source sp k C.index o (length C.locals)) (seq M' (push_to M' (values.I32 1)) (seq M' a7 (zero_out {X = X2} C.result refl)))))))))) (omega arith) (omega (arith, size, rd.few))
 
   -- a frame hands over its values and returns with the flag up
-  pub frame_out : (M : Engine) (l : List Value) (lt : types l ≡ C.locals) (ex : List Value) (Ls : List Label) (n : ℕ) (K : Kind) (B : List Label) (FR : List Frame) (g : World) (b : ℕ) (co : List CollectorCall) (o k : ℕ) (H : Nodes) → types ex ≡ added C.slots → slice_get ex (kind_at C) ≡ Some (values.I32 k) → types g.globals ≡ global_types C.source → branch (suc n) [] (label [] (jump 0 (Br (suc n)) stop) 0 K ∷ B) ≡ inside (label [] (exit_code C) 0 (returns C.result) ∷ []) → Hands M l K B FR g b co n H Ls (slice_set ex (offset_at C) (values.I32 o)) → Gets M' 1 (2 * C.slots + 2 * length C.locals + 25) (st (record { idx = mapped C.source C.index; result = C.result; kind = K; below = B; frames = FR }) (l ++ ex) [] (const (values.I32 o) (set C (offset_at C) H)) (flagged M g (values.I32 b)) co) (deliver M' (zero_vs C.result) FR (flagged M g (values.I32 1)) (collector_calls.Frame k C.index o (length C.locals) ∷ tell_locals l (tell_labels Ls co)))
-  frame_out M l lt ex Ls n K B FR g b co o k H room kd gt br a2 =
+  pub frame_out : (M : Engine) (l : List Value) (lt : types l ≡ C.locals) → Ready C l → (ex : List Value) (Ls : List Label) (n : ℕ) (K : Kind) (B : List Label) (FR : List Frame) (g : World) (b : ℕ) (co : List CollectorCall) (o k : ℕ) (H : Nodes) → types ex ≡ added C.slots → slice_get ex (kind_at C) ≡ Some (values.I32 k) → types g.globals ≡ global_types C.source → branch (suc n) [] (label [] (jump 0 (Br (suc n)) stop) 0 K ∷ B) ≡ inside (label [] (exit_code C) 0 (returns C.result) ∷ []) → Hands M l K B FR g b co n H Ls (slice_set ex (offset_at C) (values.I32 o)) → Gets M' 1 (2 * C.slots + 4 * length C.locals + 25) (st (record { idx = mapped C.source C.index; result = C.result; kind = K; below = B; frames = FR }) (l ++ ex) [] (const (values.I32 o) (set C (offset_at C) H)) (flagged M g (values.I32 b)) co) (deliver M' (zero_vs C.result) FR (flagged M g (values.I32 1)) (collector_calls.Frame k C.index o (length C.locals) ∷ tell_locals l (tell_labels Ls co)))
+  frame_out M l lt rd ex Ls n K B FR g b co o k H room kd gt br a2 =
       let size = len_of l C.locals lt in
       let X1 : Shell = record { idx = mapped C.source C.index; result = C.result; kind = K; below = B; frames = FR } in
       let X2 : Shell = record { idx = mapped C.source C.index; result = C.result; kind = returns C.result; below = []; frames = FR } in
@@ -200,7 +203,7 @@ module _ (M' : Engine) (C : Ctx) (sp : Speaks M' C.source) where
       let off2 = slice_get-put_same ex (offset_at C) I32 (values.I32 o) at in
       let a1 : To M' 2 2 (st X1 (l ++ ex) [] (const (values.I32 o) (set C (offset_at C) H)) g0 co) (st X1 (l ++ ex2) [] H g0 co) = seq M' (push_to M' (values.I32 o)) (added_set M' C l size ex (offset_at C) I32 (values.I32 o) at refl) in
       let a3 : To M' 1 1 (st X1 (l ++ ex2) [] (jump 0 (Br (suc n)) stop) g0 co1) (st X2 (l ++ ex2) [] (exit_code C) g0 co1) = one_step M' _ _ (rw br refl) in
-      weaken M' (seq M' a1 (seq M' a2 (seq M' a3 (exit_out M l lt ex2 FR g b co1 o k kd2 off2 gt)))) (omega arith) (omega arith)
+      weaken M' (seq M' a1 (seq M' a2 (seq M' a3 (exit_out M l lt rd ex2 FR g b co1 o k kd2 off2 gt)))) (omega arith) (omega arith)
 
   -- the operand that came along
   carried_to : {X : Shell} {tl : List Value} {g : World} {co : List CollectorCall} (r : Option ValType) (vs : List Value) (k : Nodes) → exactly r vs ≡ Some vs → To M' 0 1 (st X tl vs (hand_carried C r k) g co) (st X tl [] k g (tell_ops vs co))
@@ -211,8 +214,8 @@ module _ (M' : Engine) (C : Ctx) (sp : Speaks M' C.source) where
   carried_to (Some t) (v ∷ w ∷ vs) k e = absurd (cc)
 
   -- at a landing a frame hands over its operands, and then its locals
-  pub landing_out : (M : Engine) (l : List Value) (lt : types l ≡ C.locals) (ex : List Value) (x : Landing) (outer : ℕ) (K : Kind) (B : List Label) (FR : List Frame) (g : World) (b : ℕ) (co : List CollectorCall) (o : ℕ) (vs ops : List Value) → types ex ≡ added C.slots → slice_get ex (offset_at C) ≡ Some (values.I32 o) → types g.globals ≡ global_types C.source → ((o : List Value) (c : Nodes) → branch outer [] (label o c 0 K ∷ B) ≡ inside (label [] (exit_code C) 0 (returns C.result) ∷ [])) → AllIn C l (slice_set ex (kind_at C) (values.I32 x.kind)) ops x.places → exactly x.carried vs ≡ Some vs → length x.places ≤ C.slots → Gets M' 1 (2 * C.slots + 2 * length C.locals + 20) (st (record { idx = mapped C.source C.index; result = C.result; kind = K; below = B; frames = FR }) (l ++ ex) vs (landing_code C outer x) (flagged M g (values.I32 b)) co) (deliver M' (zero_vs C.result) FR (flagged M g (values.I32 1)) (collector_calls.Frame x.kind C.index o (length C.locals) ∷ tell_locals l (tell_ops (vs ++ ops) co)))
-  landing_out M l lt ex x outer K B FR g b co o vs ops room off gt br all e low =
+  pub landing_out : (M : Engine) (l : List Value) (lt : types l ≡ C.locals) → Ready C l → (ex : List Value) (x : Landing) (outer : ℕ) (K : Kind) (B : List Label) (FR : List Frame) (g : World) (b : ℕ) (co : List CollectorCall) (o : ℕ) (vs ops : List Value) → types ex ≡ added C.slots → slice_get ex (offset_at C) ≡ Some (values.I32 o) → types g.globals ≡ global_types C.source → ((o : List Value) (c : Nodes) → branch outer [] (label o c 0 K ∷ B) ≡ inside (label [] (exit_code C) 0 (returns C.result) ∷ [])) → AllIn C l (slice_set ex (kind_at C) (values.I32 x.kind)) ops x.places → exactly x.carried vs ≡ Some vs → length x.places ≤ C.slots → Gets M' 1 (2 * C.slots + 4 * length C.locals + 20) (st (record { idx = mapped C.source C.index; result = C.result; kind = K; below = B; frames = FR }) (l ++ ex) vs (landing_code C outer x) (flagged M g (values.I32 b)) co) (deliver M' (zero_vs C.result) FR (flagged M g (values.I32 1)) (collector_calls.Frame x.kind C.index o (length C.locals) ∷ tell_locals l (tell_ops (vs ++ ops) co)))
+  landing_out M l lt rd ex x outer K B FR g b co o vs ops room off gt br all e low =
       let size = len_of l C.locals lt in
       let X1 : Shell = record { idx = mapped C.source C.index; result = C.result; kind = K; below = B; frames = FR } in
       let X2 : Shell = record { idx = mapped C.source C.index; result = C.result; kind = returns C.result; below = []; frames = FR } in
@@ -232,11 +235,11 @@ module _ (M' : Engine) (C : Ctx) (sp : Speaks M' C.source) where
       let a2 : To M' 0 (2 * length x.places) (st X1 (l ++ ex2) vs k1 g0 co) (st X1 (l ++ ex2) vs k2 g0 co1) = hand_all_to l size ex2 ops x.places k2 all in
       let a3 : To M' 0 1 (st X1 (l ++ ex2) vs k2 g0 co1) (st X1 (l ++ ex2) [] go g0 co2) = carried_to x.carried vs go e in
       let a4 : To M' 1 1 (st X1 (l ++ ex2) [] go g0 co2) (st X2 (l ++ ex2) [] (exit_code C) g0 co2) = one_step M' _ _ (rw (br [] go) refl) in
-      rw (tell-append vs ops co) (weaken M' (seq M' a1 (seq M' a2 (seq M' a3 (seq M' a4 (exit_out M l lt ex2 FR g b co2 o x.kind kd2 off2 gt))))) (omega arith) (omega (arith, low)))
+      rw (tell-append vs ops co) (weaken M' (seq M' a1 (seq M' a2 (seq M' a3 (seq M' a4 (exit_out M l lt rd ex2 FR g b co2 o x.kind kd2 off2 gt))))) (omega arith) (omega (arith, low)))
 
   -- a frame is left for a landing
-  pub landed_out : (M : Engine) (l : List Value) (lt : types l ≡ C.locals) (ex : List Value) (L : Label) (Ls : List Label) (e : List Place) (ss : List (List Place)) (x : Landing) (n : ℕ) (FR : List Frame) (g : World) (b : ℕ) (co : List CollectorCall) (o j : ℕ) (s vs ops : List Value) (k : Nodes) (a : Option ValType) → FitsLabels C l ex a (L ∷ Ls) (e ∷ ss) → types ex ≡ added C.slots → slice_get ex (offset_at C) ≡ Some (values.I32 o) → types g.globals ≡ global_types C.source → number_of x C.landings ≡ Some n → top x.carried s ≡ Some vs → AllIn C l (slice_set ex (kind_at C) (values.I32 x.kind)) ops x.places → length x.places ≤ C.slots → Gets M' 1 (2 * C.slots + 2 * length C.locals + 21) (st (record { idx = mapped C.source C.index; result = C.result; kind = t_kind C (length Ls) (joined ss) L.kind; below = t_labels C (pending L.kind) Ls ss; frames = FR }) (l ++ ex) (values.I32 (suc j) ∷ s) (jump 0 (BrIf (suc (length Ls) + n)) k) (flagged M g (values.I32 b)) co) (deliver M' (zero_vs C.result) FR (flagged M g (values.I32 1)) (collector_calls.Frame x.kind C.index o (length C.locals) ∷ tell_locals l (tell_ops (vs ++ ops) co)))
-  landed_out M l lt ex L Ls e ss x n FR g b co o j s vs ops k a h room off gt is t all low =
+  pub landed_out : (M : Engine) (l : List Value) (lt : types l ≡ C.locals) → Ready C l → (ex : List Value) (L : Label) (Ls : List Label) (e : List Place) (ss : List (List Place)) (x : Landing) (n : ℕ) (FR : List Frame) (g : World) (b : ℕ) (co : List CollectorCall) (o j : ℕ) (s vs ops : List Value) (k : Nodes) (a : Option ValType) → FitsLabels C l ex a (L ∷ Ls) (e ∷ ss) → types ex ≡ added C.slots → slice_get ex (offset_at C) ≡ Some (values.I32 o) → types g.globals ≡ global_types C.source → number_of x C.landings ≡ Some n → top x.carried s ≡ Some vs → AllIn C l (slice_set ex (kind_at C) (values.I32 x.kind)) ops x.places → length x.places ≤ C.slots → Gets M' 1 (2 * C.slots + 4 * length C.locals + 21) (st (record { idx = mapped C.source C.index; result = C.result; kind = t_kind C (length Ls) (joined ss) L.kind; below = t_labels C (pending L.kind) Ls ss; frames = FR }) (l ++ ex) (values.I32 (suc j) ∷ s) (jump 0 (BrIf (suc (length Ls) + n)) k) (flagged M g (values.I32 b)) co) (deliver M' (zero_vs C.result) FR (flagged M g (values.I32 1)) (collector_calls.Frame x.kind C.index o (length C.locals) ∷ tell_locals l (tell_ops (vs ++ ops) co)))
+  landed_out M l lt rd ex L Ls e ss x n FR g b co o j s vs ops k a h room off gt is t all low =
       let N = jump 0 (BrIf (suc (length Ls) + n)) k in
       let K = t_kind C (length Ls) (joined ss) L.kind in
       let X : Shell = record { idx = mapped C.source C.index; result = C.result; kind = K; below = t_labels C (pending L.kind) Ls ss; frames = FR } in
@@ -245,7 +248,7 @@ module _ (M' : Engine) (C : Ctx) (sp : Speaks M' C.source) where
       let X1 : Shell = record { idx = mapped C.source C.index; result = C.result; kind = to.kind; below = to.below; frames = FR } in
       let s1 : To M' 1 1 (st X (l ++ ex) (values.I32 (suc j) ∷ s) N g0 co) (st X1 (l ++ ex) (vs ++ []) (landing_code C to.outer x) g0 co) = one_step M' _ _ (rw to.comes refl) in
       let s2 : To M' 1 1 (st X (l ++ ex) (values.I32 (suc j) ∷ s) N g0 co) (st X1 (l ++ ex) vs (landing_code C to.outer x) g0 co) = rw append-nil at s1 in
-      weaken M' (seq M' s2 (landing_out M l lt ex x to.outer to.kind to.below FR g b co o vs ops room off gt to.exits all (top_exact x.carried s vs t) low)) (omega arith) (omega arith)
+      weaken M' (seq M' s2 (landing_out M l lt rd ex x to.outer to.kind to.below FR g b co o vs ops room off gt to.exits all (top_exact x.carried s vs t) low)) (omega arith) (omega arith)
 
 module _ (M M' : Engine) (E : ℕ) (gl : List ValType) (W : Wrap) (sp : Speaks M' M.program.module_) where
   -- a frame is left behind, the flag up: it hands over its own
@@ -261,8 +264,8 @@ module _ (M M' : Engine) (E : ℕ) (gl : List ValType) (W : Wrap) (sp : Speaks M
   exact_zero (Some I64) = refl
 
   -- the flag is up behind a call: the frame is left, by way of a landing or in place
-  tested_out : (C : Ctx) (l : List Value) (lt : types l ≡ C.locals) (ex : List Value) (L : Label) (Ls : List Label) (e : List Place) (ss : List (List Place)) (FR : List Frame) (g : World) (co : List CollectorCall) (o : ℕ) (s : List Value) (k : Nodes) (a : Option ValType) (sp_ : Speaks M' C.source) → FitsLabels C l ex a (L ∷ Ls) (e ∷ ss) → types ex ≡ added C.slots → types g.globals ≡ global_types C.source → length (e ++ joined ss) ≤ C.slots → Gets M' 1 (2 * C.slots + 2 * length C.locals + 40) (st (record { idx = mapped C.source C.index; result = C.result; kind = t_kind C (length Ls) (joined ss) L.kind; below = t_labels C (pending L.kind) Ls ss; frames = FR }) (l ++ ex) s (test_flag C (suc (length Ls)) (e ++ joined ss) o k) (flagged M g (values.I32 1)) co) (deliver M' (zero_vs C.result) FR (flagged M g (values.I32 1)) (collector_calls.Frame 0 C.index o (length C.locals) ∷ tell_locals l (tell_labels (L ∷ Ls) co)))
-  tested_out C l lt ex L Ls e ss FR g co o s k a sp_ h room gt low = by_number (number_of (landing_behind (part_of C.locals o) (e ++ joined ss)) C.landings) refl
+  tested_out : (C : Ctx) (l : List Value) (lt : types l ≡ C.locals) → Ready C l → (ex : List Value) (L : Label) (Ls : List Label) (e : List Place) (ss : List (List Place)) (FR : List Frame) (g : World) (co : List CollectorCall) (o : ℕ) (s : List Value) (k : Nodes) (a : Option ValType) (sp_ : Speaks M' C.source) → FitsLabels C l ex a (L ∷ Ls) (e ∷ ss) → types ex ≡ added C.slots → types g.globals ≡ global_types C.source → length (e ++ joined ss) ≤ C.slots → Gets M' 1 (2 * C.slots + 4 * length C.locals + 40) (st (record { idx = mapped C.source C.index; result = C.result; kind = t_kind C (length Ls) (joined ss) L.kind; below = t_labels C (pending L.kind) Ls ss; frames = FR }) (l ++ ex) s (test_flag C (suc (length Ls)) (e ++ joined ss) o k) (flagged M g (values.I32 1)) co) (deliver M' (zero_vs C.result) FR (flagged M g (values.I32 1)) (collector_calls.Frame 0 C.index o (length C.locals) ∷ tell_locals l (tell_labels (L ∷ Ls) co)))
+  tested_out C l lt rd ex L Ls e ss FR g co o s k a sp_ h room gt low = by_number (number_of (landing_behind (part_of C.locals o) (e ++ joined ss)) C.landings) refl
     where
       es : List Place
       es = e ++ joined ss
@@ -270,7 +273,7 @@ module _ (M M' : Engine) (E : ℕ) (gl : List ValType) (W : Wrap) (sp : Speaks M
       ls : ℕ
       ls = suc (length Ls)
 
-      by_number : (q : Option ℕ) → number_of (landing_behind (part_of C.locals o) (e ++ joined ss)) C.landings ≡ q → Gets M' 1 (2 * C.slots + 2 * length C.locals + 40) (st (record { idx = mapped C.source C.index; result = C.result; kind = t_kind C (length Ls) (joined ss) L.kind; below = t_labels C (pending L.kind) Ls ss; frames = FR }) (l ++ ex) s (checked q C (suc (length Ls)) (e ++ joined ss) o (get_flag C) (const (values.I32 0)) k) (flagged M g (values.I32 1)) co) (deliver M' (zero_vs C.result) FR (flagged M g (values.I32 1)) (collector_calls.Frame 0 C.index o (length C.locals) ∷ tell_locals l (tell_labels (L ∷ Ls) co)))
+      by_number : (q : Option ℕ) → number_of (landing_behind (part_of C.locals o) (e ++ joined ss)) C.landings ≡ q → Gets M' 1 (2 * C.slots + 4 * length C.locals + 40) (st (record { idx = mapped C.source C.index; result = C.result; kind = t_kind C (length Ls) (joined ss) L.kind; below = t_labels C (pending L.kind) Ls ss; frames = FR }) (l ++ ex) s (checked q C (suc (length Ls)) (e ++ joined ss) o (get_flag C) (const (values.I32 0)) k) (flagged M g (values.I32 1)) co) (deliver M' (zero_vs C.result) FR (flagged M g (values.I32 1)) (collector_calls.Frame 0 C.index o (length C.locals) ∷ tell_locals l (tell_labels (L ∷ Ls) co)))
       by_number None is =
           let size = len_of l C.locals lt in
           let X : Shell = record { idx = mapped C.source C.index; result = C.result; kind = t_kind C (length Ls) (joined ss) L.kind; below = t_labels C (pending L.kind) Ls ss; frames = FR } in
@@ -290,7 +293,7 @@ module _ (M M' : Engine) (E : ℕ) (gl : List ValType) (W : Wrap) (sp : Speaks M
           let s4 : To M' 2 2 (st X1 (l ++ ex) [] arm g1 co) (st X1 (l ++ ex2) [] (unwind C (suc (length Ls)) (e ++ joined ss) o) g1 co) = seq M' (push_to M' (values.I32 0)) (added_set M' C l size ex (kind_at C) I32 (values.I32 0) at refl) in
           let br = exit_branch C l ex a s k L Ls e ss h in
           let hands : Hands M' C sp_ M l X1.kind X1.below X1.frames g 1 co n H (L ∷ Ls) ex3 = weaken M' (hand_to M' C sp_ l size ex3 a (L ∷ Ls) (e ∷ ss) (to_exit C (suc (length Ls))) h3) (omega arith) (omega (arith, low)) in
-          let s5 = frame_out M' C sp_ M l lt ex2 (L ∷ Ls) n X1.kind X1.below X1.frames g 1 co o 0 H (types-slice_set ex (kind_at C) I32 (values.I32 0) at refl ∙ room) (slice_get-put_same ex (kind_at C) I32 (values.I32 0) at) gt br hands in
+          let s5 = frame_out M' C sp_ M l lt rd ex2 (L ∷ Ls) n X1.kind X1.below X1.frames g 1 co o 0 H (types-slice_set ex (kind_at C) I32 (values.I32 0) at refl ∙ room) (slice_get-put_same ex (kind_at C) I32 (values.I32 0) at) gt br hands in
           weaken M' (seq M' s2 (seq M' s3 (seq M' s4 s5))) (omega arith) (omega arith)
       by_number (Some m) is =
           let size = len_of l C.locals lt in
@@ -306,13 +309,13 @@ module _ (M M' : Engine) (E : ℕ) (gl : List ValType) (W : Wrap) (sp : Speaks M
           let go = jump 0 (BrIf (suc (length Ls) + m)) k in
           let s1 : To M' 2 2 (st X (l ++ ex) s (const (values.I32 o) (set C (offset_at C) (get_flag C go))) g1 co) (st X (l ++ exm) s (get_flag C go) g1 co) = mark_to M' C l size o ex room in
           let s2 : To M' 1 1 (st X (l ++ exm) s (get_flag C go) g1 co) (st X (l ++ exm) (values.I32 1 ∷ s) go g1 co) = flag_to M M' E gl W C g 1 fl in
-          let s3 = landed_out M' C sp_ M l lt exm L Ls e ss x m FR g 1 co o 0 s [] (all_ops (L ∷ Ls)) k a hm roomm (slice_get-put_same ex (offset_at C) I32 (values.I32 o) at) gt is refl (all_in C l (slice_set exm (kind_at C) (values.I32 0)) a (L ∷ Ls) (e ∷ ss) hk) low in
+          let s3 = landed_out M' C sp_ M l lt rd exm L Ls e ss x m FR g 1 co o 0 s [] (all_ops (L ∷ Ls)) k a hm roomm (slice_get-put_same ex (offset_at C) I32 (values.I32 o) at) gt is refl (all_in C l (slice_set exm (kind_at C) (values.I32 0)) a (L ∷ Ls) (e ∷ ss) hk) low in
           rw (← tell-all (L ∷ Ls) co) (weaken M' (seq M' s1 (seq M' s2 s3)) (omega arith) (omega arith))
 
-  up_in : (Fs : List Frame) (ws : List Wit) (g : World) (co : List CollectorCall) (t : Config) (p q : ℕ) (r : Option ValType) (C : Ctx) (ex : List Value) (i cl : ℕ) (r' : Option ValType) (l : List Value) (Ls : List Label) (ss : List (List Place)) → FitsFrame M E gl (Waits r) (frame i r' cl l Ls) (wit C ex ss) → FitsFrames M E gl W.result r' Fs ws → WorldFits M gl g → Up t p q r (frame i r' cl l Ls ∷ Fs) (wit C ex ss ∷ ws) g co → Up t p (q + E) r' Fs ws g (tell_frame 0 cl (frame i r' cl l Ls) co)
-  up_in Fs ws g co t p q r C ex i cl r' l [] ss f fs gl_ u = absurd f.labels
-  up_in Fs ws g co t p q r C ex i cl r' l (L ∷ Ls) [] f fs gl_ u = absurd f.labels
-  up_in Fs ws g co t p q r C ex i cl r' l (L ∷ Ls) (e ∷ ss) f fs gl_ u =
+  up_in : (Fs : List Frame) (ws : List Wit) (g : World) (co : List CollectorCall) (t : Config) (p q : ℕ) (r : Option ValType) (C : Ctx) (ex : List Value) (i cl : ℕ) (r' : Option ValType) (l : List Value) (Ls : List Label) (ss : List (List Place)) → FitsFrame M E gl (Waits r) (frame i r' cl l Ls) (wit C ex ss) → DerivedCaller M.program (frame i r' cl l Ls) → FitsFrames M E gl W.result r' Fs ws → WorldFits M gl g → Up t p q r (frame i r' cl l Ls ∷ Fs) (wit C ex ss ∷ ws) g co → Up t p (q + E) r' Fs ws g (tell_frame 0 cl (frame i r' cl l Ls) co)
+  up_in Fs ws g co t p q r C ex i cl r' l [] ss f dc fs gl_ u = absurd f.labels
+  up_in Fs ws g co t p q r C ex i cl r' l (L ∷ Ls) [] f dc fs gl_ u = absurd f.labels
+  up_in Fs ws g co t p q r C ex i cl r' l (L ∷ Ls) (e ∷ ss) f dc fs gl_ u =
       let h = f.labels in
       let es = e ++ joined ss in
       let ls = suc (length Ls) in
@@ -336,16 +339,16 @@ module _ (M M' : Engine) (E : ℕ) (gl : List ValType) (W : Wrap) (sp : Speaks M
       let sp_ = subst (Speaks M') (sym f.funcs) sp in
       let go1 : Gets M' p q t (next (st X (l ++ ex) all_ (keep pass C (option_map Spilled r) es k1) g1 co)) = u in
       let s1 : To M' 0 1 (st X (l ++ ex) all_ (keep pass C (option_map Spilled r) es k1) g1 co) (st X (l ++ ex1) all_ k1 g1 co) = kept_unless M' C l size pass ex r es (zero_vs r) L.operands k1 pl (exact_zero r) in
-      let s5 = tested_out C l f.size ex1 L Ls e ss X.frames g co cl all_ k r sp_ h1 room1 gt low in
+      let s5 = tested_out C l f.size (frame_ready f dc.0) ex1 L Ls e ss X.frames g co cl all_ k r sp_ h1 room1 gt low in
       let all : Gets M' p (q + E) t (deliver M' (zero_vs C.result) X.frames g1 (collector_calls.Frame 0 C.index cl n ∷ tell_locals l (tell_labels (L ∷ Ls) co))) = weaken M' (seq M' go1 (seq M' s1 s5)) (omega arith) (omega (arith, f.small)) in
       renamed t p (q + E) C.result r' C.index i n (length l) cl 0 X.frames g (tell_locals l (tell_labels (L ∷ Ls) co)) f.result f.idx size all
 
   -- the same for a frame that called through the table
-  up_arm : (Fs : List Frame) (ws : List Wit) (g : World) (co : List CollectorCall) (t : Config) (p q : ℕ) (r : Option ValType) (C : Ctx) (ex : List Value) (others : UnderWay) (i cl : ℕ) (r' : Option ValType) (l : List Value) (Ls : List Label) (ss : List (List Place)) → FitsFrame M E gl (Waits r) (frame i r' cl l Ls) (wit_under C ex ss (Some others)) → FitsFrames M E gl W.result r' Fs ws → WorldFits M gl g → Up t p q r (frame i r' cl l Ls ∷ Fs) (wit_under C ex ss (Some others) ∷ ws) g co → Up t p (q + E) r' Fs ws g (tell_frame 0 cl (frame i r' cl l Ls) co)
+  up_arm : (Fs : List Frame) (ws : List Wit) (g : World) (co : List CollectorCall) (t : Config) (p q : ℕ) (r : Option ValType) (C : Ctx) (ex : List Value) (others : UnderWay) (i cl : ℕ) (r' : Option ValType) (l : List Value) (Ls : List Label) (ss : List (List Place)) → FitsFrame M E gl (Waits r) (frame i r' cl l Ls) (wit_under C ex ss (Some others)) → DerivedCaller M.program (frame i r' cl l Ls) → FitsFrames M E gl W.result r' Fs ws → WorldFits M gl g → Up t p q r (frame i r' cl l Ls ∷ Fs) (wit_under C ex ss (Some others) ∷ ws) g co → Up t p (q + E) r' Fs ws g (tell_frame 0 cl (frame i r' cl l Ls) co)
   unfolding int_binary
-  up_arm Fs ws g co t p q r C ex others i cl r' l [] ss f fs gl_ u = absurd f.labels
-  up_arm Fs ws g co t p q r C ex others i cl r' l (L ∷ Ls) [] f fs gl_ u = absurd f.labels
-  up_arm Fs ws g co t p q r C ex others i cl r' l (L ∷ Ls) (e ∷ ss) f fs gl_ u =
+  up_arm Fs ws g co t p q r C ex others i cl r' l [] ss f dc fs gl_ u = absurd f.labels
+  up_arm Fs ws g co t p q r C ex others i cl r' l (L ∷ Ls) [] f dc fs gl_ u = absurd f.labels
+  up_arm Fs ws g co t p q r C ex others i cl r' l (L ∷ Ls) (e ∷ ss) f dc fs gl_ u =
       let h = f.labels in
       let es = e ++ joined ss in
       let ls = suc (length Ls) in
@@ -385,18 +388,18 @@ module _ (M M' : Engine) (E : ℕ) (gl : List ValType) (W : Wrap) (sp : Speaks M
       let b2 : To M' 1 1 (st X1 (l ++ ex3) [] test g1 co1) (st X1 (l ++ ex3) (values.I32 0 ∷ []) (if_any others.others (to_exit C ls)) g1 co1) = added_get M' C l size ex3 (kind_at C) (values.I32 0) kd3 in
       let b3 : To M' 2 2 (st X1 (l ++ ex3) (values.I32 0 ∷ []) (if_any others.others (to_exit C ls)) g1 co1) (st X1 (l ++ ex3) [] (to_exit C ls) g1 co1) = if_zero_to M' in
       let hands : Hands M' C sp_ M l X1.kind X1.below X1.frames g 1 co (ls + length C.landings) H (L ∷ Ls) ex3 = weaken M' (seq M' b1 (seq M' b2 b3)) (omega arith) (omega (arith, low)) in
-      let s5 = frame_out M' C sp_ M l f.size ex1 (L ∷ Ls) (ls + length C.landings) X1.kind X1.below X1.frames g 1 co cl 0 H (len1 ∙ f.room) kd gt br hands in
+      let s5 = frame_out M' C sp_ M l f.size (frame_ready f dc.0) ex1 (L ∷ Ls) (ls + length C.landings) X1.kind X1.below X1.frames g 1 co cl 0 H (len1 ∙ f.room) kd gt br hands in
       let all : Gets M' p (q + E) t (deliver M' (zero_vs C.result) X.frames g1 (collector_calls.Frame 0 C.index cl n ∷ tell_locals l (tell_labels (L ∷ Ls) co))) = weaken M' (seq M' go1 (seq M' s1 (seq M' s2 (seq M' s3 (seq M' s4 s5))))) (omega arith) (omega (arith, f.small)) in
       renamed t p (q + E) C.result r' C.index i n (length l) cl 0 X.frames g (tell_locals l (tell_labels (L ∷ Ls) co)) f.result f.idx size all
 
-  pub up_under : (Fs : List Frame) (ws : List Wit) (g : World) (co : List CollectorCall) (t : Config) (p q : ℕ) (r : Option ValType) (F : Frame) (C : Ctx) (ex : List Value) (ss : List (List Place)) (others : Option UnderWay) → FitsFrame M E gl (Waits r) F (wit_under C ex ss others) → FitsFrames M E gl W.result F.result Fs ws → WorldFits M gl g → Up t p q r (F ∷ Fs) (wit_under C ex ss others ∷ ws) g co → Up t p (q + E) F.result Fs ws g (tell_frame 0 F.call F co)
-  up_under Fs ws g co t p q r F C ex ss None f fs gl_ u = up_in Fs ws g co t p q r C ex F.function F.call F.result F.locals F.labels ss f fs gl_ u
-  up_under Fs ws g co t p q r F C ex ss (Some others) f fs gl_ u = up_arm Fs ws g co t p q r C ex others F.function F.call F.result F.locals F.labels ss f fs gl_ u
+  pub up_under : (Fs : List Frame) (ws : List Wit) (g : World) (co : List CollectorCall) (t : Config) (p q : ℕ) (r : Option ValType) (F : Frame) (C : Ctx) (ex : List Value) (ss : List (List Place)) (others : Option UnderWay) → FitsFrame M E gl (Waits r) F (wit_under C ex ss others) → DerivedCaller M.program F → FitsFrames M E gl W.result F.result Fs ws → WorldFits M gl g → Up t p q r (F ∷ Fs) (wit_under C ex ss others ∷ ws) g co → Up t p (q + E) F.result Fs ws g (tell_frame 0 F.call F co)
+  up_under Fs ws g co t p q r F C ex ss None f dc fs gl_ u = up_in Fs ws g co t p q r C ex F.function F.call F.result F.locals F.labels ss f dc fs gl_ u
+  up_under Fs ws g co t p q r F C ex ss (Some others) f dc fs gl_ u = up_arm Fs ws g co t p q r C ex others F.function F.call F.result F.locals F.labels ss f dc fs gl_ u
 
   -- all frames, the innermost first
-  pub up_all : (Fs : List Frame) (ws : List Wit) (g : World) (co : List CollectorCall) (t : Config) (p q : ℕ) (r : Option ValType) → FitsFrames M E gl W.result r Fs ws → WorldFits M gl g → Up t p q r Fs ws g co → To M' p (q + length Fs * E) t (config (w_frame W (zero_vs (last_result r Fs) ++ []) ∷ []) (flagged M g (values.I32 1)) (tell_outer Fs co))
-  up_all [] ws g co t p q r fs gl_ u = weaken M' u (omega arith) (omega arith)
-  up_all (F ∷ Fs) [] g co t p q r fs gl_ u = absurd fs
-  up_all (F ∷ Fs) (w ∷ ws) g co t p q r fs gl_ u =
-      weaken M' (up_all Fs ws g (tell_frame 0 F.call F co) t p (q + E) F.result fs.1 gl_
-      (up_under Fs ws g co t p q r F w.ctx w.ex w.ss w.under_way fs.0 fs.1 gl_ u)) (omega arith) (omega arith)
+  pub up_all : (Fs : List Frame) (ws : List Wit) (g : World) (co : List CollectorCall) (t : Config) (p q : ℕ) (r : Option ValType) → FitsFrames M E gl W.result r Fs ws → DerivedCallers M.program Fs → WorldFits M gl g → Up t p q r Fs ws g co → To M' p (q + length Fs * E) t (config (w_frame W (zero_vs (last_result r Fs) ++ []) ∷ []) (flagged M g (values.I32 1)) (tell_outer Fs co))
+  up_all [] ws g co t p q r fs ds gl_ u = weaken M' u (omega arith) (omega arith)
+  up_all (F ∷ Fs) [] g co t p q r fs ds gl_ u = absurd fs
+  up_all (F ∷ Fs) (w ∷ ws) g co t p q r fs ds gl_ u =
+      weaken M' (up_all Fs ws g (tell_frame 0 F.call F co) t p (q + E) F.result fs.1 ds.1 gl_
+      (up_under Fs ws g co t p q r F w.ctx w.ex w.ss w.under_way fs.0 ds.0 fs.1 gl_ u)) (omega arith) (omega arith)

@@ -9,6 +9,7 @@ pub mod Telling
 pub mod Landings
 pub mod Facts
 pub mod Known
+pub mod Derived
 pub mod Offsets
 pub mod Pieces
 pub mod Rewrite

@@ -4,3 +4,4 @@ pub mod Rising
 pub mod Places
 pub mod Writing
 pub mod KeptLandings
+pub mod KeptDerivations

@@ -14,9 +14,11 @@ ghost use Rattle.rewrite_code.specs.calls.Writing.{Emits};
 ghost use Rattle.rewrite_bodies.specs.calls.Landings.{most_landings};
 ghost use Rattle.rewrite_bodies.specs.calls.Facts.{among};
 ghost use Rattle.rewrite_code.specs.calls.KeptLandings.{landing};
+ghost use Rattle.rewrite_code.specs.calls.KeptDerivations.{derivation, each_derivation};
 ghost use Rattle.rewrite_code.specs.calls.Contexts.{context, FewLocals};
 
 use crate::CodeWriter;
+use crate::derivation::Derivation;
 use crate::landing::{Landing, Landings};
 use crate::measuring::{renew, set_length};
 use crate::offsets::Offsets;
@@ -28,7 +30,8 @@ use std::marker::Model;
 use wasm_syntax::{Basic, ValType};
 
 /// The module, the types of a function's locals with its parameters, the number of heights, its
-/// index, its result, its landings, and the offsets of instructions that need a guard.
+/// index, its result, its landings, the offsets of instructions that need a guard, and the locals
+/// that are worked out where it is left.
 #[derive(Drop)]
 pub struct FunctionContext<'m, 'a> {
     map: &'m IndexMap<'a>,
@@ -38,15 +41,18 @@ pub struct FunctionContext<'m, 'a> {
     gives: Option<ValType>,
     landings: Landings,
     exposed: Offsets,
+    derivations: Items<Derivation>,
 }
 
 impl<'m, 'a> Model for FunctionContext<'m, 'a> {
     ghost use Rattle.rewrite_bodies.specs.calls.Slots.{Ctx};
+    ghost use Rattle.rewrite_code.specs.calls.KeptDerivations.{each_derivation};
     ghost use Rattle.rewrite_code.specs.calls.Contexts.{context, FewLocals};
 
     ghost Value = { Ctx };
 
-    ghost view = { λ s. context s.map.now s.locals s.slots s.index s.gives s.landings s.exposed };
+    ghost view = { λ s. context s.map.now s.locals s.slots s.index s.gives s.landings s.exposed
+        (each_derivation s.derivations) };
 
     ghost invariant = { λ s. FewLocals s.locals s.slots };
 }
@@ -61,9 +67,11 @@ impl<'m, 'a> FunctionContext<'m, 'a> {
         gives: Option<ValType>,
         landings: Landings,
         exposed: Offsets,
+        derivations: Items<Derivation>,
     ) -> Self
         requires { FewLocals locals slots }
-        ensures { result ≡ context map.now locals slots index gives landings exposed }
+        ensures { result ≡ context map.now locals slots index gives landings exposed
+            (each_derivation derivations) }
     {
         FunctionContext {
             map,
@@ -73,6 +81,7 @@ impl<'m, 'a> FunctionContext<'m, 'a> {
             gives,
             landings,
             exposed,
+            derivations,
         }
     }
 
@@ -127,6 +136,13 @@ impl<'m, 'a> FunctionContext<'m, 'a> {
         ensures few { result ≤ most_landings }
     {
         self.landings.count()
+    }
+
+    /// The locals that are worked out where the function is left.
+    pub fn derivations(&self) -> &[Derivation]
+        ensures list { map derivation result.now ≡ self.now.derivations }
+    {
+        self.derivations.as_slice()
     }
 
     /// Whether an instruction at this offset needs a guard, if it can trap.

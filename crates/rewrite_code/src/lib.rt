@@ -3,6 +3,7 @@
 #![tactic(auto)]
 
 mod context;
+mod derivation;
 mod handing;
 mod landing;
 pub mod laws;
@@ -15,6 +16,7 @@ mod unwinding;
 mod writer;
 
 pub use context::FunctionContext;
+pub use derivation::Derivation;
 pub use landing::{Landing, Landings, part_of};
 pub use measuring::renew;
 pub use moves::drops;

@@ -85,7 +85,7 @@ impl<'m, 'a> FunctionContext<'m, 'a> {
         }
     }
 
-    // A result on the stack is kept in its slot besides, unless the next instruction takes it.
+    // A result on the stack is kept in its slot besides, unless it passes.
     fn keep_in_slot(
         &self,
         writer: &mut CodeWriter,
@@ -105,7 +105,7 @@ impl<'m, 'a> FunctionContext<'m, 'a> {
     }
 
     /// A result on the stack is kept, over so many operands, where its value is in no other place,
-    /// unless the next instruction takes it.
+    /// unless it passes: then it is taken before anything is handed over.
     pub fn keep(
         &self,
         writer: &mut CodeWriter,

@@ -20,10 +20,10 @@ use Rattle.wasm_syntax.specs.declared.instruction.Basic.TheVariants.{Select, Loc
 use Rattle.wasm_syntax.specs.declared.value.ValType.TheVariants.{I32, I64}
 use Rattle.wasm_syntax.specs.Sizes.{parameter_count}
 use Rattle.rewrite_bodies.specs.Numbering.{import_count, mapped, frame_import, global_types, doubles}
-use Rattle.rewrite_bodies.specs.calls.Slots.{Place, place_type, Ctx, slot, kind_at, offset_at, less, grown, under, result_place, after_plain, Spilled, Known, Copied, Landing, local_written, measured}
+use Rattle.rewrite_bodies.specs.calls.Slots.{Place, place_type, Ctx, slot, kind_at, offset_at, less, grown, under, result_place, after_plain, Spilled, Known, Copied, Landing, local_written, measured, Derivation}
 use Rattle.rewrite_bodies.specs.calls.Pieces.{get, set, const, i32, call, if_any, fetch, load, keep_slot, keep, store, reload, spill_one, spill, drops}
 use Rattle.rewrite_bodies.specs.calls.Guards.{least, minus_one, guard_zero, guard_signed, past_end, beyond_word, out_test, guard_memory, range_test, guard, can_trap, kind, helper, renewed, measure, renew_both}
-use Rattle.rewrite_bodies.specs.calls.Rewrite.{hand_value, hand, hand_top, to_exit, unwind, test_flag, test_both, unwind_kind, tested, guarded, passes, free, plain, with_result, after_call, after_direct, call_code, helper_of, past_shown, indirect_code, control, rewrite, hand_locals, zero_result, raise_flag, exit_code, body, checked, get_flag, hand_carried, landing_code, nested, laid, free_at, grows, lengthened, blocks}
+use Rattle.rewrite_bodies.specs.calls.Rewrite.{hand_value, hand, hand_top, to_exit, unwind, test_flag, test_both, unwind_kind, tested, guarded, passes, free, plain, with_result, after_call, after_direct, call_code, helper_of, past_shown, indirect_code, control, rewrite, hand_locals, zero_result, raise_flag, exit_code, body, checked, get_flag, hand_carried, landing_code, nested, laid, free_at, grows, lengthened, blocks, worked_out}
 use Rattle.rewrite_modules.specs.calls.Wrappers.{get_all, tell_globals, after_wrapped, wrapper}
 use Rattle.rewrite_modules.specs.calls.FlatCode.{op}
 use Rattle.rewrite_bodies.proofs.Risks.{risk_of}
@@ -285,6 +285,10 @@ module _ (C : Ctx) where
   tree_locals x [] k tk = tk
   tree_locals x (t ∷ ts) k tk = tree_locals (suc x) ts k tk
 
+  tree_worked : (ds : List Derivation) (k : Nodes) → IsTree k → IsTree (worked_out ds k)
+  tree_worked [] k tk = tk
+  tree_worked (d ∷ ds) k tk = tree_worked ds k tk
+
   tree_zero_result : (r : Option ValType) (k : Nodes) → IsTree k → IsTree (zero_result r k)
   tree_zero_result None k tk = tk
   tree_zero_result (Some t) k tk = tk
@@ -292,7 +296,8 @@ module _ (C : Ctx) where
   tree_exit : IsTree (exit_code C)
   tree_exit =
       let k9 = zero_result C.result (jump 0 Return stop) in
-      tree_locals 0 C.locals (get C (kind_at C) (const (i32 C.index) (get C (offset_at C) (const (i32 (length C.locals)) (call (frame_import C.source) (raise_flag C k9)))))) (tree_zero_result C.result (jump 0 Return stop) tt)
+      let handed = get C (kind_at C) (const (i32 C.index) (get C (offset_at C) (const (i32 (length C.locals)) (call (frame_import C.source) (raise_flag C k9))))) in
+      tree_worked C.derivations (hand_locals C 0 C.locals handed) (tree_locals 0 C.locals handed (tree_zero_result C.result (jump 0 Return stop) tt))
 
   tree_landing : (n : ℕ) (x : Landing) → IsTree (landing_code C n x)
   tree_landing n x = tree_hand x.places (hand_carried C x.carried (jump 0 (Br n) stop)) (carried x.carried)

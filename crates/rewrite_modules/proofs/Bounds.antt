@@ -41,7 +41,7 @@ Static hs (loop o t inner en rest) = Static hs inner × Static hs rest
 Static hs (choose o t a ea b en rest) = Static hs a × Static hs b × Static hs rest
 
 abbrev pub with_slots : Ctx → ℕ → Ctx
-with_slots C n = record { source = C.source; base = C.base; helpers = C.helpers; locals = C.locals; slots = n; index = C.index; result = C.result; landings = C.landings; exposed = C.exposed }
+with_slots C n = record { source = C.source; base = C.base; helpers = C.helpers; locals = C.locals; slots = n; index = C.index; result = C.result; landings = C.landings; exposed = C.exposed; derivations = C.derivations }
 
 module _ (C : Ctx) (n : ℕ) where
   abbrev D : Ctx

@@ -20,10 +20,10 @@ use Rattle.wasm_syntax.specs.declared.instruction.Convert.TheVariants.{ExtendU}
 use Rattle.wasm_syntax.specs.declared.instruction.Basic.TheVariants.{Select, LocalGet, Eqz, Compare, Binary, Convert}
 use Rattle.wasm_syntax.specs.declared.value.ValType.TheVariants.{I32, I64}
 use Rattle.rewrite_bodies.specs.Numbering.{import_count, mapped, frame_import, global_types, doubles}
-use Rattle.rewrite_bodies.specs.calls.Slots.{Place, place_type, Ctx, slot, kind_at, offset_at, less, grown, under, result_place, after_plain, Spilled, Known, Copied, Landing, local_written, measured}
+use Rattle.rewrite_bodies.specs.calls.Slots.{Place, place_type, Ctx, slot, kind_at, offset_at, less, grown, under, result_place, after_plain, Spilled, Known, Copied, Landing, local_written, measured, Derivation}
 use Rattle.rewrite_bodies.specs.calls.Pieces.{get, set, const, i32, call, if_any, fetch, load, keep_slot, keep, store, reload, spill_one, spill, drops}
 use Rattle.rewrite_bodies.specs.calls.Guards.{least, minus_one, guard_zero, guard_signed, past_end, beyond_word, out_test, guard_memory, range_test, guard, can_trap, kind, helper, renewed, measure, renew_both}
-use Rattle.rewrite_bodies.specs.calls.Rewrite.{hand_value, hand, hand_top, to_exit, unwind, test_flag, test_both, unwind_kind, tested, guarded, passes, free, plain, with_result, after_call, after_direct, call_code, helper_of, past_shown, indirect_code, control, rewrite, hand_locals, zero_result, raise_flag, exit_code, body, checked, get_flag, hand_carried, landing_code, nested, laid, free_at, grows, lengthened, blocks}
+use Rattle.rewrite_bodies.specs.calls.Rewrite.{hand_value, hand, hand_top, to_exit, unwind, test_flag, test_both, unwind_kind, tested, guarded, passes, free, plain, with_result, after_call, after_direct, call_code, helper_of, past_shown, indirect_code, control, rewrite, hand_locals, zero_result, raise_flag, exit_code, body, checked, get_flag, hand_carried, landing_code, nested, laid, free_at, grows, lengthened, blocks, worked_out}
 use Rattle.rewrite_modules.specs.calls.Wrappers.{get_all, tell_globals, after_wrapped, wrapper}
 use Rattle.wasm_syntax.specs.declared.instruction.Instr.{Instr}
 use Rattle.wasm_syntax.specs.declared.instruction.Instr.TheVariants as instrs
@@ -425,6 +425,10 @@ module _ (C : Ctx) where
   low_locals lv x [] k tk = tk
   low_locals lv x (t ∷ ts) k tk = low_locals lv (suc x) ts k tk
 
+  low_worked : (lv : ℕ) (ds : List Derivation) (k : Nodes) → Low lv k → Low lv (worked_out ds k)
+  low_worked lv [] k tk = tk
+  low_worked lv (d ∷ ds) k tk = low_worked lv ds k tk
+
   low_zero_result : (lv : ℕ) (r : Option ValType) (k : Nodes) → Low lv k → Low lv (zero_result r k)
   low_zero_result lv None k tk = tk
   low_zero_result lv (Some t) k tk = tk
@@ -432,7 +436,8 @@ module _ (C : Ctx) where
   low_exit : (lv : ℕ) → Low lv (exit_code C)
   low_exit lv =
       let k9 = zero_result C.result (jump 0 Return stop) in
-      low_locals lv 0 C.locals (get C (kind_at C) (const (i32 C.index) (get C (offset_at C) (const (i32 (length C.locals)) (call (frame_import C.source) (raise_flag C k9)))))) (low_zero_result lv C.result (jump 0 Return stop) tt)
+      let handed = get C (kind_at C) (const (i32 C.index) (get C (offset_at C) (const (i32 (length C.locals)) (call (frame_import C.source) (raise_flag C k9))))) in
+      low_worked lv C.derivations (hand_locals C 0 C.locals handed) (low_locals lv 0 C.locals handed (low_zero_result lv C.result (jump 0 Return stop) tt))
 
   low_landing : (lv n : ℕ) (x : Landing) → Low lv (landing_code C n x)
   low_landing lv n x = low_hand lv x.places (hand_carried C x.carried (jump 0 (Br n) stop)) (carried x.carried)
@@ -469,7 +474,7 @@ low_more (choose at t x ea y end rest) (suc a) (suc b) le h = (low_more x a b (o
 pub low_body : (C : Ctx) (d : ℕ) (nodes : Nodes) → Low d nodes → Low (24 + d) (body C nodes)
 low_body C d nodes h =
     let D = with_landings C nodes in
-    let few = few_landings (landed C (exposed_in C.source.memories nodes) []) [] nodes [] (omega arith) in
+    let few = few_landings (landed C (exposed_in C.source.memories nodes) [] []) [] nodes [] (omega arith) in
     low_more (body C nodes) (suc (length D.landings + suc (suc (suc d)))) (24 + d) (omega (arith, few)) (low_laid D d nodes h)
 
 -- ---- wrappers and helpers

@@ -32,6 +32,7 @@ use Rattle.rewrite_modules.specs.Collector.{collector_import}
 use Rattle.rewrite_modules.specs.calls.Instrument.{each, new_body, new_tree, new_module, instrument, wrapper_type}
 use Rattle.rewrite_modules.specs.calls.FlatCode.{body_of}
 use Rattle.rewrite_modules.specs.calls.Wrappers.{wrapper}
+use Rattle.rewrite_bodies.proofs.DerivedSteps.{defined_type}
 use Rattle.rewrite_modules.proofs.Bounds.{Static, room_of}
 use Rattle.wasm_laws.proofs.Lists.{get_within}
 use Rattle.pm_text.proofs.Lists.{get_front}
@@ -148,14 +149,9 @@ type_is_import p f i type h =
     let a : slice_get (function_types p.module_) f ≡ Some i.ftype = get_front (map (λ i. i.ftype) p.module_.imports) p.module_.functions f i.ftype (slice_get-map (λ i. i.ftype) p.module_.imports f ∙ ap (option_map (λ i. i.ftype)) h.import) in
     rw (a, h.type_is) refl
 
-type_is_defined : (p : Program) (f : ℕ) (b : Body) (tree : Tree) (type : FuncType) → IsDefined p f b tree type → type_at p.module_ f ≡ Some type
-type_is_defined p f b tree type h =
-    let a : slice_get (function_types p.module_) f ≡ Some h.t = get_right (map (λ i. i.ftype) p.module_.imports) p.module_.functions h.number f (h.number_is ∙ ap (λ z. z + h.number) (sym (length-map p.module_.imports (λ i. i.ftype)))) ∙ h.function in
-    rw (a, h.type_is) refl
-
 pub type_is_of : (p : Program) (f : ℕ) (fn : Function) → function_at p f ≡ Some fn → type_at p.module_ f ≡ Some (function_type fn)
 type_is_of p f (imported i type) e = type_is_import p f i type (import_of p f i type e)
-type_is_of p f (defined b tree type) e = type_is_defined p f b tree type (is_defined p f b tree type e)
+type_is_of p f (defined b tree type) e = defined_type p f b tree type e
 
 -- what is asked of the old program: as many bodies and trees as functions, no import of the collector's module, and small offsets
 pub record Ready (p : Program) : Type 0 where

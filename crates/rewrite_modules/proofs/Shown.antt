@@ -1,5 +1,5 @@
 -- What is collected of a trapped configuration is whole, and its dump is the image.
-use Rattle.std.proofs.Common.{◌≡◌, ℕ, suc, ◌+◌, ◌*◌, ◌<◌, ◌≤◌, List, [], ◌∷◌, ◌++◌, length, map, reverse, Option, Bool, true, false, refl, sym, ap, ◌∙◌, arith, append_assoc, append-nil, length-append, option_map, mul-le-mul}
+use Rattle.std.proofs.Common.{◌≡◌, ℕ, zero, suc, ◌+◌, ◌*◌, ◌<◌, ◌≤◌, List, [], ◌∷◌, ◌++◌, length, map, reverse, Option, Bool, true, false, refl, sym, ap, ◌∙◌, arith, append_assoc, append-nil, length-append, option_map, mul-le-mul}
 use Rattle.wasm_syntax.specs.declared.value.ValType.{ValType}
 use Rattle.wasm_syntax.specs.declared.value.Value.{Value}
 use Rattle.wasm_syntax.specs.declared.host.CollectorCall.{CollectorCall}
@@ -8,7 +8,7 @@ use Rattle.wasm_syntax.specs.Tree.{Nodes}
 use Rattle.wasm_syntax.specs.Host.{World}
 use Rattle.wasm_syntax.specs.Machine.{Label, Frame, Config, frame, Engine, calls, offset_of}
 use Rattle.rewrite_bodies.specs.calls.Slots.{Place, Ctx, grown, greatest}
-use Rattle.rewrite_bodies.specs.calls.Rewrite.{passes}
+use Rattle.rewrite_bodies.specs.calls.Rewrite.{spare}
 use Rattle.rewrite_bodies.specs.calls.Agreement.{awaits, pending, joined, UnderWay, Wit, HoldsBut, FitsLabels, FitsOpen, FitsFrame, FitsFrames, FitsTop, FitsConfig, Doing, Runs, Waits, running}
 use Rattle.dump_write.specs.Collected.{value_call, Entry, entry_calls, calls_of, HaveKind, Whole, collected_dump}
 use Rattle.rewrite_bodies.specs.calls.Telling.{tell_ops, tell_labels, tell_locals, tell_frame, tell_outer, tell_frames, collected}
@@ -104,17 +104,17 @@ len_labels C l ex a (L ∷ Ls) [] co h = absurd h
 len_labels C l ex a (L ∷ Ls) (e ∷ ss) co h =
     omega (arith, len_ops L.operands (tell_labels Ls co), holds_len C l ex (joined ss) e L.operands h.0, len_labels C [] ex (awaits (pending L.kind)) Ls ss co h.4, length-append e (joined ss))
 
--- of the operands of a label of which all but the topmost are kept
-len_but : (C : Ctx) (p : Bool) (l ex : List Value) (js e : List Place) (ops : List Value) → HoldsBut C p l ex js ops e → length ops ≡ length e
-len_but C false l ex js e ops h = holds_len C l ex js e ops h
-len_but C true l ex js [] [] h = refl
-len_but C true l ex js [] (v ∷ ops) h = absurd h
-len_but C true l ex js (e ∷ es) [] h = absurd h
-len_but C true l ex js (e ∷ es) (v ∷ ops) h = ap suc (holds_len C l ex js es ops h.1)
+-- of the operands of a label of which all but so many are kept
+len_but : (C : Ctx) (n : ℕ) (l ex : List Value) (js e : List Place) (ops : List Value) → HoldsBut C n l ex js ops e → length ops ≡ length e
+len_but C zero l ex js e ops h = holds_len C l ex js e ops h
+len_but C (suc n) l ex js [] [] h = refl
+len_but C (suc n) l ex js [] (v ∷ ops) h = absurd h
+len_but C (suc n) l ex js (e ∷ es) [] h = absurd h
+len_but C (suc n) l ex js (e ∷ es) (v ∷ ops) h = ap suc (len_but C n l ex js es ops h.1)
 
 len_open : (C : Ctx) (l ex : List Value) (a : Doing) (L : Label) (Ls : List Label) (e : List Place) (ss : List (List Place)) (co : List CollectorCall) → FitsOpen C l ex a (L ∷ Ls) (e ∷ ss) → (length (tell_labels (L ∷ Ls) co) ≡ length (joined (e ∷ ss)) + length co) × (length (e ++ joined ss) ≤ C.slots)
 len_open C l ex (Runs n) L Ls e ss co h = (
-  omega (arith, len_ops L.operands (tell_labels Ls co), len_but C (passes C L.nodes) l ex (joined ss) e L.operands h.0, len_labels C [] ex (awaits (pending L.kind)) Ls ss co h.4, length-append e (joined ss)),
+  omega (arith, len_ops L.operands (tell_labels Ls co), len_but C (spare C L.nodes) l ex (joined ss) e L.operands h.0, len_labels C [] ex (awaits (pending L.kind)) Ls ss co h.4, length-append e (joined ss)),
   room_height C (e ++ joined ss) L.nodes h.2,
 )
 len_open C l ex (Waits a) L Ls e ss co h =

@@ -2,6 +2,7 @@
 use Rattle.rewrite_bodies.proofs.Laid.{room_landed}
 use Rattle.rewrite_bodies.specs.calls.Landings.{number_of, number_in, landing_of, landing_behind, landings_from, landed, part_of}
 use Rattle.std.proofs.Common.{◌≡◌, ℕ, zero, suc, ◌+◌, ◌*◌, ◌-◌, ◌/◌, ◌≤◌, nat_lt, if◌then◌else◌, ◌==◌, Bool, true, false, List, [], ◌∷◌, ◌++◌, length, length-append, map, reverse, Option, Some, None, refl, sym, ap, ◌∙◌, subst, arith, slice_get, option_map, option_to_list}
+use Rattle.std.specs.List.{AllByRecursion}
 use Rattle.std.proofs.lemmas.List.{length-reverse, length-map}
 use Rattle.int_ops.specs.declared.operators.Binary.{Binary as BinaryOp}
 use Rattle.int_ops.specs.declared.operators.Binary.TheVariants.{Add, And, Or, Shl, Sub}
@@ -24,20 +25,22 @@ use Rattle.wasm_syntax.specs.Machine.{result_of}
 use Rattle.wasm_syntax.specs.Typing.{BasicTypes, JumpTypes, Types}
 use Rattle.wasm_syntax.specs.Run.{table_min}
 use Rattle.rewrite_bodies.specs.Numbering.{import_count, mapped, value_import, frame_import, flag_of, value_type, frame_type, doubles}
-use Rattle.rewrite_bodies.specs.calls.Slots.{Place, Spilled, Known, Copied, place_type, Ctx, slot, kind_at, offset_at, less, pushed, grown, uncopied, under, result_type, result_place, freed, after_plain, Landing, local_written, length_at, measured}
+use Rattle.rewrite_bodies.specs.calls.Slots.{Place, Spilled, Known, Copied, place_type, Ctx, slot, kind_at, offset_at, less, pushed, grown, uncopied, under, result_type, result_place, freed, after_plain, Landing, local_written, length_at, measured, Derivation}
 use Rattle.rewrite_bodies.specs.calls.Pieces.{get, set, const, i32, call, if_any, fetch, load, keep_slot, keep, store, reload, spill_one, spill, drops}
 use Rattle.rewrite_bodies.specs.calls.Guards.{guard, can_trap, least, minus_one, less_word, past_end, beyond_word, out_test, range_test, guard_zero, guard_signed, guard_memory, kind, helper, helper_type, length_of, get_length, set_length, renewed, measure, renew_both}
-use Rattle.rewrite_bodies.specs.calls.Rewrite.{hand_value, hand, hand_top, to_exit, unwind, test_flag, hand_left, test_both, unwind_kind, tested, guarded, passes, free, plain, with_result, after_direct, call_code, helper_of, past_shown, indirect_code, rewrite, hand_locals, raise_flag, zero_result, exit_code, body, checked, get_flag, hand_carried, landing_code, nested, laid, free_at, grows, lengthened, blocks}
+use Rattle.rewrite_bodies.specs.calls.Rewrite.{hand_value, hand, hand_top, to_exit, unwind, test_flag, hand_left, test_both, unwind_kind, tested, guarded, passes, free, plain, with_result, after_direct, call_code, helper_of, past_shown, indirect_code, rewrite, hand_locals, raise_flag, zero_result, exit_code, body, checked, get_flag, hand_carried, landing_code, nested, laid, free_at, grows, lengthened, blocks, worked_out}
 use Rattle.rewrite_bodies.specs.calls.Typed.{Info, in_block, in_loop, in_body, Offers, original}
 use Rattle.rewrite_bodies.specs.calls.Agreement.{Room_call, Room}
 use Rattle.rewrite_bodies.proofs.Sim.{grown-append}
 use Rattle.rewrite_bodies.proofs.Copies.{Fixed, fixed_under, without_append}
 use Rattle.rewrite_bodies.proofs.TypedNodes.{cuts, result_is, grown_types, takes_of, own_behind, behind_types, after_types, without_types, offers_landed}
 use Rattle.rewrite_modules.proofs.Stacks.{gives_count, gives_len, Under_call, Under, fewer}
-use Rattle.rewrite_bodies.proofs.Risks.{risk_of}
+use Rattle.rewrite_bodies.proofs.Risks.{risk_of, Deriving, compares, combines, derived_by}
 use Rattle.wasm_syntax.specs.calls.Classes.{Divider, by_div_s, by_div_u, by_rem_s, by_rem_u, Risky, risky_binary, risky_load, risky_store, risky_copy, risky_fill}
 use Rattle.rewrite_bodies.specs.calls.Facts.{needs, exposed_in}
 use Rattle.rewrite_bodies.proofs.FactLaws.{needs_trap}
+use Rattle.rewrite_bodies.specs.calls.Derived.{Fitting, derived_for}
+use Rattle.rewrite_bodies.proofs.DerivedLaws.{derived_fit}
 
 -- the length of the memory is set, with two operands more
 module _ (m : Module) (N : ℕ) where
@@ -588,16 +591,33 @@ module _ (C : Ctx) (m : Module) (locals : List ValType) (off : Offers C m locals
   u_locals x [] k u = u
   u_locals x (t ∷ ts) k u = (omega arith, u_value 0 t (hand_locals C (suc x) ts k) (omega (arith, room)) (u_locals (suc x) ts k u))
 
+  -- at most two operands
+  u_derives : (i : Basic) (k : Nodes) → Deriving i → U 1 k → U 2 (basic 0 i k)
+  u_derives i k (compares t op) u = u_basic 2 i 1 k (omega (arith, room)) (omega arith) u
+  u_derives i k (combines t op) u = u_basic 2 i 1 k (omega (arith, room)) (omega arith) u
+
+  u_worked : (ds : List Derivation) (k : Nodes) → AllByRecursion (Fitting C.locals) ds → U 0 k → U 0 (worked_out ds k)
+  u_worked [] k fit u = u
+  u_worked (d ∷ ds) k fit u =
+      let rest = worked_out ds k in
+      let k2 = basic 0 (LocalSet d.made) rest in
+      let k1 = basic 0 d.instruction k2 in
+      let u3 : U 1 k2 = u_basic 1 (LocalSet d.made) 0 rest (omega (arith, room)) (omega arith) (u_worked ds k fit.1 u) in
+      let u2 : U 2 k1 = u_derives d.instruction k2 (derived_by d.instruction fit.0.derives) u3 in
+      let u1 : U 1 (basic 0 (LocalGet d.right) k1) = u_basic 1 (LocalGet d.right) 2 k1 (omega (arith, room)) (omega arith) u2 in
+      u_basic 0 (LocalGet d.left) 1 (basic 0 (LocalGet d.right) k1) (omega arith) (omega arith) u1
+
   u_zero_result : (r : Option ValType) → U 0 (zero_result r (jump 0 Return stop))
   u_zero_result None = (omega arith, tt)
   u_zero_result (Some t) = (omega arith, (omega (arith, room), tt))
 
-  u_exit_code : U 0 (exit_code C)
-  u_exit_code =
+  u_exit_code : AllByRecursion (Fitting C.locals) C.derivations → U 0 (exit_code C)
+  u_exit_code fit =
       let raised = raise_flag C (zero_result C.result (jump 0 Return stop)) in
       let u : U 0 raised = (omega arith, (omega (arith, room), u_zero_result C.result)) in
       let called : U 4 (call (frame_import C.source) raised) = u_call 4 (frame_import C.source) frame_type 0 raised off.frames (omega (arith, room)) (omega arith) u in
-      u_locals 0 C.locals (get C (kind_at C) (const (i32 C.index) (get C (offset_at C) (const (i32 (length C.locals)) (call (frame_import C.source) raised))))) (omega arith, (omega (arith, room), (omega (arith, room), (omega (arith, room), called))))
+      let handed = get C (kind_at C) (const (i32 C.index) (get C (offset_at C) (const (i32 (length C.locals)) (call (frame_import C.source) raised)))) in
+      u_worked C.derivations (hand_locals C 0 C.locals handed) fit (u_locals 0 C.locals handed (omega arith, (omega (arith, room), (omega (arith, room), (omega (arith, room), called)))))
 
   u_returned : (r : Option ValType) → U (length (option_to_list r)) (jump 0 Return stop)
   u_returned None = (omega arith, tt)
@@ -627,18 +647,19 @@ module _ (C : Ctx) (m : Module) (locals : List ValType) (off : Offers C m locals
       let k = landing_code C (length xs) x in
       u_nested xs (block 0 x.carried inner 0 k) (omega arith, u, fewer m N k c (c + 0) (omega arith) (u_landing (length xs) x))
 
-  u_laid : (nodes : Nodes) → Room C [] nodes → Types (original C (in_body C.result ∷ [])) nodes [] (option_to_list C.result) → U 0 (laid C nodes)
-  u_laid nodes rm ty =
+  u_laid : (nodes : Nodes) → AllByRecursion (Fitting C.locals) C.derivations → Room C [] nodes → Types (original C (in_body C.result ∷ [])) nodes [] (option_to_list C.result) → U 0 (laid C nodes)
+  u_laid nodes fit rm ty =
       let a = u_rewrite nodes (in_body C.result ∷ []) [] [] [] (option_to_list C.result) refl tt rm ty in
       let core = block 0 C.result (rewrite C 1 [] nodes) 0 (jump 0 Return stop) in
-      let u : U 0 (blocks C nodes) = (omega arith, u_nested C.landings core (omega arith, a, fewer m N (jump 0 Return stop) (length (option_to_list C.result)) (length (option_to_list C.result) + 0) (omega arith) (u_returned C.result)), u_exit_code) in
+      let u : U 0 (blocks C nodes) = (omega arith, u_nested C.landings core (omega arith, a, fewer m N (jump 0 Return stop) (length (option_to_list C.result)) (length (option_to_list C.result) + 0) (omega arith) (u_returned C.result)), u_exit_code fit) in
       measure_under m N (measured C) C 0 (blocks C nodes) (omega (arith, room)) u
 
 pub u_body : (C : Ctx) (m : Module) (locals : List ValType) → Offers C m locals → (N : ℕ) → 2 * C.slots + 16 ≤ N → (nodes : Nodes) → Room C [] nodes → Types (original C (in_body C.result ∷ [])) nodes [] (option_to_list C.result) → Under m N 0 (body C nodes)
 u_body C m locals off N room nodes rm ty =
     let os = exposed_in C.source.memories nodes in
-    let xs = landings_from (landed C os []) [] nodes [] in
-    u_laid (landed C os xs) m locals (offers_landed C m locals os xs off) N room nodes (room_landed C os xs [] nodes rm) ty
+    let xs = landings_from (landed C os [] []) [] nodes [] in
+    let ds = derived_for C.source C.index C.locals nodes in
+    u_laid (landed C os xs ds) m locals (offers_landed C m locals os xs ds off) N room nodes (derived_fit C.source C.index C.locals nodes) (room_landed C os xs ds [] nodes rm) ty
 
 -- ---- helpers
 

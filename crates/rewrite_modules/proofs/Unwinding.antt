@@ -74,8 +74,8 @@ module _ (p : Program) (given : Given p) (d : ℕ) where
     starts = λ replies e. starts_fit p given d replies e;
     begins = begins;
     follows = λ W c ws h sh. step_sim M M' n gl W S c ws h sh;
-    one_frame = λ W F Fs w ws g co t q r f fs wf u. up_under M M' n gl W S.speaks Fs ws g co t 0 q r F w.ctx w.ex w.ss w.under_way f fs wf u;
-    all_frames = λ W Fs ws g co t q r fs wf u. up_all M M' n gl W S.speaks Fs ws g co t 0 q r fs wf u;
+    one_frame = λ W F Fs w ws g co t q r f dc fs wf u. up_under M M' n gl W S.speaks Fs ws g co t 0 q r F w.ctx w.ex w.ss w.under_way f dc fs wf u;
+    all_frames = λ W Fs ws g co t q r fs ds wf u. up_all M M' n gl W S.speaks Fs ws g co t 0 q r fs ds wf u;
     wrapper = λ W zs g co rest wf.
         let e = trap_end M M' n gl S refl W zs g co rest wf in
         (e.0, e.1, e.2, weaken M' e.3 (omega arith) (omega (arith, length-map p.module_.globals (λ g. g.vtype))));

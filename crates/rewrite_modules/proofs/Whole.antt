@@ -19,7 +19,7 @@ use Rattle.wasm_syntax.specs.Machine.{returns, Config, label, frame, config, Eng
 use Rattle.rewrite_bodies.specs.calls.Slots.{Ctx, added, ctx_of, measured}
 use Rattle.rewrite_bodies.specs.Numbering.{mapped, frame_import, flag_of, global_types}
 use Rattle.rewrite_bodies.specs.calls.Pieces.{const, i32, call, if_any, tree_of}
-use Rattle.rewrite_bodies.specs.calls.Rewrite.{passes, body}
+use Rattle.rewrite_bodies.specs.calls.Rewrite.{spare, body}
 use Rattle.rewrite_bodies.specs.calls.Guards.{renew}
 use Rattle.std.proofs.lemmas.List.{length-map, reverse-append, reverse-reverse, length-reverse}
 use Rattle.rewrite_bodies.specs.calls.Steps.{went, run, Gets, To, Shell, st}
@@ -43,6 +43,9 @@ use Rattle.wasm_syntax.proofs.Types.{same_types_refl}
 use Rattle.rewrite_bodies.specs.calls.Facts.{exposed_in}
 use Rattle.rewrite_bodies.specs.calls.Known.{nodes_of}
 use Rattle.rewrite_bodies.proofs.KnownSteps.{begins_known}
+use Rattle.rewrite_bodies.specs.calls.Derived.{derived_at}
+use Rattle.rewrite_bodies.proofs.DerivedLaws.{derived_few}
+use Rattle.rewrite_bodies.proofs.DerivedSteps.{derived_begins}
 
 -- ---- runs by exact steps, and by steps left
 
@@ -212,7 +215,7 @@ module _ (M M' : Engine) (E : ℕ) (gl : List ValType) (S : Stands M M' E gl) (g
     target = config (entered wi wb wtree type args ∷ []) (flagged M g (values.I32 up)) []
 
     pub fits : FitsConfig M E gl W.result source (w0 ∷ [])
-    fits = (wf, (record { size = types-locals args type.params (declared_locals b.groups) ty; room = types_told (measured D) D (told_length g.memory) (zeros (added k.slots)) (zero_types (added k.slots)) ∙ zero_types (added k.slots); idx = refl; result = refl; funcs = refl; base = refl; helpers = refl; flag = sym gm; small = k.small; exposed = ap (λ q. exposed_in m.memories (nodes_of q)) (sym at); narrow = k.narrow; labels = (loosened D (passes D tree.nodes) (args ++ zeros (declared_locals b.groups)) w0.ex [] [] [] tt, has_told D (told_length g.memory) (zeros (added k.slots)) (zero_types (added k.slots)), room_landed C (exposed_in m.memories tree.nodes) (landings_from (landed C (exposed_in m.memories tree.nodes) []) [] tree.nodes []) [] tree.nodes k.room, refl, tt); no_kind = tt }, refl), begins_known M f b tree type args g [] at wf.least)
+    fits = (wf, (record { size = types-locals args type.params (declared_locals b.groups) ty; room = types_told (measured D) D (told_length g.memory) (zeros (added k.slots)) (zero_types (added k.slots)) ∙ zero_types (added k.slots); idx = refl; result = refl; funcs = refl; base = refl; helpers = refl; flag = sym gm; small = k.small; exposed = ap (λ q. exposed_in m.memories (nodes_of q)) (sym at); derivations = ap (derived_at m f) (sym at); few = derived_few m f C.locals tree.nodes; narrow = k.narrow; labels = (loosened D (spare D tree.nodes) (args ++ zeros (declared_locals b.groups)) w0.ex [] [] [] tt, has_told D (told_length g.memory) (zeros (added k.slots)) (zero_types (added k.slots)), room_landed C (exposed_in m.memories tree.nodes) (landings_from (landed C (exposed_in m.memories tree.nodes) [] []) [] tree.nodes []) D.derivations [] tree.nodes k.room, refl, tt); no_kind = tt }, refl), begins_known M f b tree type args g [] at wf.least, derived_begins M f b tree type args g [] at (sym (len_of args type.params ty)))
 
     pub begin : To M' 1 (length type.params + 38) target (image M W source (w0 ∷ []))
     begin =
@@ -242,7 +245,7 @@ module _ (M M' : Engine) (E : ℕ) (gl : List ValType) (S : Stands M M' E gl) (g
         let s4 : To M' 1 1 (st X args (reverse args) kc g0 []) mid = one_step M' _ _ (rw (k.target, whole, twice, tys, depth, locals) refl) in
         let own = args ++ zeros (declared_locals b.groups) in
         let size : length D.locals ≡ length own = len_of own D.locals (types-locals args type.params (declared_locals b.groups) ty) in
-        let s5 : To M' 0 27 mid (image M W source (w0 ∷ [])) = into_function M' M (mapped m f) (result_of type) (caller ∷ []) g [] D own ex tree.nodes size (zero_types (added k.slots)) fl (few_landings (landed C (exposed_in m.memories tree.nodes) []) [] tree.nodes [] (omega arith)) in
+        let s5 : To M' 0 27 mid (image M W source (w0 ∷ [])) = into_function M' M (mapped m f) (result_of type) (caller ∷ []) g [] D own ex tree.nodes size (zero_types (added k.slots)) fl (few_landings (landed C (exposed_in m.memories tree.nodes) [] []) [] tree.nodes [] (omega arith)) in
         subst (λ z. To M' 1 (length type.params + 38) (config (z ∷ []) gu []) (image M W source (w0 ∷ []))) (sym noted) (weaken M' (seq M' s1 (seq M' s2 (seq M' s2b (seq M' s3 (seq M' s4 s5))))) (omega arith) (omega arith))
 
     abbrev pub target_run : ℕ → Ended

@@ -11,7 +11,7 @@ use Rattle.rewrite_bodies.specs.Numbering.{mapped, value_import, frame_import, f
 use Rattle.rewrite_bodies.specs.calls.Slots.{Ctx, kind_at, offset_at}
 use Rattle.rewrite_bodies.specs.calls.Pieces.{get, const, i32, call}
 use Rattle.rewrite_bodies.specs.calls.Guards.{renew, says, helper, entry_label, first_table}
-use Rattle.rewrite_bodies.specs.calls.Rewrite.{hand_locals, zero_result, raise_flag, exit_code, rewrite, body}
+use Rattle.rewrite_bodies.specs.calls.Rewrite.{worked_out, hand_locals, zero_result, raise_flag, exit_code, rewrite, body}
 use Rattle.rewrite_modules.specs.calls.Wrappers.{get_all, tell_globals, lower_flag, end_of_dump, after_wrapped, wrapper_nodes}
 use Rattle.rewrite_code.specs.calls.Writing.{Written, Behind, ends, goes, Emits, EmitsLast, Opens, Closes}
 use Rattle.rewrite_code.proofs.Pieces.{emits_then, emits_last, emits_stop, emits_within}
@@ -29,10 +29,10 @@ pub frame_ended : (C : Ctx) (m : Module) (x y i n f : ℕ) {a b c d e g : Writte
 frame_ended C m x y i n f kind offset index count same frame p q r s t =
     emits_then (get_at C kind p) (emits_then (number_at index q) (emits_then (get_at C offset r) (emits_then (number_at count s) (call_at (frame ∙ ap frame_import same) t))))
 
-pub exited : (C : Ctx) (r : Option ValType) {a b c d e f : Written} → r ≡ C.result → Emits (hand_locals C 0 C.locals) a b →
+pub exited : (C : Ctx) (r : Option ValType) {a w b c d e f : Written} → r ≡ C.result → Emits (worked_out C.derivations) a w → Emits (hand_locals C 0 C.locals) w b →
     Emits (λ k. get C (kind_at C) (const (i32 C.index) (get C (offset_at C) (const (i32 (length C.locals)) (call (frame_import C.source) k))))) b c → Emits (raise_flag C) c d → Emits (zero_result r) d e →
     Emits (jump 0 Return) e f → EmitsLast (exit_code C) a f
-exited C r {d = d} {e = e} gives p q s z t = emits_last p (emits_last q (emits_last s (emits_last (subst (λ r. Emits (zero_result r) d e) gives z) (emits_stop t))))
+exited C r {d = d} {e = e} gives o p q s z t = emits_last o (emits_last p (emits_last q (emits_last s (emits_last (subst (λ r. Emits (zero_result r) d e) gives z) (emits_stop t)))))
 
 -- ---- wrappers and helpers
 

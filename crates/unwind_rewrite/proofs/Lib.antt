@@ -2,6 +2,7 @@ pub mod Numbers
 pub mod Branching
 pub mod Calling
 pub mod Bodies
+pub mod WorkedOut
 pub mod JumpLaws
 pub mod NodeLaws
 pub mod PointLaws

@@ -1,6 +1,6 @@
 -- What is known at a point of a body, and where the code goes from there.
 use Rattle.rewrite_bodies.specs.calls.Landings.{most_landings}
-use Rattle.std.proofs.Common.{◌≡◌, ◌≢◌, ℕ, zero, suc, ◌&&◌, not, ◌+◌, ◌-◌, ◌^◌, ◌<◌, ◌≤◌, Bool, true, false, nat_le, Option, List, [], ◌∷◌, length, drop, get_or, slice_get, refl, sym, ap, subst, ◌∙◌, arith, length-drop}
+use Rattle.std.proofs.Common.{◌≡◌, ◌≢◌, ℕ, zero, suc, pred, if◌then◌else◌, ◌+◌, ◌-◌, ◌^◌, ◌<◌, ◌≤◌, Bool, true, false, nat_le, nat_lt, Option, List, [], ◌∷◌, length, drop, get_or, slice_get, refl, sym, ap, subst, ◌∙◌, arith, length-drop, lt-ltb}
 use Rattle.std.proofs.lemmas.List.{drop_all}
 use Rattle.std.proofs.lemmas.Option.{slice_get-get_or}
 use Rattle.std.proofs.lemmas.Bool.Decides.{nat_tests}
@@ -14,7 +14,7 @@ use Rattle.wasm_syntax.specs.declared.instruction.Basic.{Basic}
 use Rattle.wasm_syntax.specs.Effect.{takes}
 use Rattle.rewrite_bodies.specs.calls.Facts.{needs}
 use Rattle.rewrite_bodies.specs.calls.Slots.{Ctx}
-use Rattle.rewrite_bodies.specs.calls.Rewrite.{any, passes, rewrite}
+use Rattle.rewrite_bodies.specs.calls.Rewrite.{any, at_once, or_behind, passes, rewrite}
 use Rattle.rewrite_bodies.specs.calls.Typed.{end_gives}
 use Rattle.rewrite_bodies.proofs.Sim.{room_height, grown_longer}
 use Rattle.rewrite_code.specs.calls.Writing.{Written, EmitsLast}
@@ -29,17 +29,31 @@ use Rattle.operand_spill.specs.declared.flow.Flow.TheVariants.{Next, Ends}
 use Rattle.unwind_rewrite.specs.declared.points.Point.{Point}
 use Rattle.unwind_rewrite.specs.declared.points.Point.TheVariants as points
 use Rattle.unwind_rewrite.specs.calls.Numbers.{Helped, AllHelped}
-use Rattle.unwind_rewrite.specs.calls.Points.{EndsAt, Advances, Resumes, IsBehind, Holds, BeforeLast, code_in, is_last}
+use Rattle.unwind_rewrite.specs.calls.Points.{AtOnce, EndsAt, Advances, Resumes, IsBehind, Holds, BeforeLast, code_in, is_last}
 use Rattle.rewrite_modules.proofs.Multiple.{code_length}
 
 -- ---- whether an operand passes
 
-pub none_taken : (n m : ℕ) (b : Bool) → n ≡ m → n ≡ 0 → false ≡ (any m && b)
-none_taken n m b e z = rw (sym e ∙ z) refl
+-- not to an instruction with a guard
+pub to_guarded : (C : Ctx) (o : ℕ) (i : Basic) (rest : Nodes) {b : Bool} → b ≡ needs C o i → b ≡ true → false ≡ passes C (basic o i rest)
+to_guarded C o i rest e is = rw (sym e ∙ is) refl
 
-pub some_taken : (n m : ℕ) (a : Bool) {b : Bool} → n ≡ m → n ≢ 0 → a ≡ b → not a ≡ (any m && not b)
-some_taken n zero a e some is = absurd (some e)
-some_taken n (suc m) a e some is = ap not is
+-- to one that takes some
+pub to_taker : (C : Ctx) (o : ℕ) (i : Basic) (rest : Nodes) {b : Bool} {n : ℕ} → b ≡ needs C o i → b ≡ false → n ≡ takes i → n ≢ 0 → true ≡ passes C (basic o i rest)
+to_taker C o i rest e is same some = rw (sym e ∙ is) (by (takes i) (λ z. some (same ∙ z)))
+  where
+    by : (n : ℕ) → n ≢ 0 → true ≡ any (or_behind n (at_once C rest))
+    by zero some = absurd (some refl)
+    by (suc n) some = refl
+
+-- over one that takes none, to one that takes two
+pub over_pushing : (C : Ctx) (o : ℕ) (i : Basic) (rest : Nodes) {b : Bool} {n : ℕ} (m : ℕ) → b ≡ needs C o i → b ≡ false → n ≡ takes i → n ≡ 0 → m ≡ at_once C rest → nat_lt 1 m ≡ passes C (basic o i rest)
+over_pushing C o i rest m e is same none there = rw (sym e ∙ is) (rw (sym same ∙ none) (rw there (by (at_once C rest))))
+  where
+    by : (m : ℕ) → nat_lt 1 m ≡ any (pred m)
+    by zero = refl
+    by (suc zero) = refl
+    by (suc (suc m)) = lt-ltb 1 (suc (suc m)) (omega arith)
 
 -- where nothing is left, no node is
 nothing_left : (nodes : Nodes) (dues : List Due) → [] ≡ write nodes (flat dues) → nodes ≡ stop
@@ -59,8 +73,8 @@ passes_nothing C n targets ops le nodes dues e =
 pub passes_shape : (C : Ctx) (at : ℕ) (i : Item) (xs : List Placed) (p : Bool) → ((nodes : Nodes) (dues : List Due) → Shape at i xs nodes dues → p ≡ passes C nodes) → Passes C (placed at i ∷ xs) p
 passes_shape C at i xs p h nodes dues e = h nodes dues (shape nodes dues at i xs e)
 
-pub passes_basic : (C : Ctx) (at : ℕ) (i : Basic) (xs : List Placed) (p : Bool) → p ≡ (any (takes i) && not (needs C at i)) → Passes C (placed at (Plain i) ∷ xs) p
-passes_basic C at i xs p e = passes_shape C at (Plain i) xs p (λ nodes dues s. e ∙ ap (passes C) (sym s.1))
+pub passes_basic : (C : Ctx) (at : ℕ) (i : Basic) (xs : List Placed) (p : Bool) → ((rest : Nodes) (dues : List Due) → xs ≡ write rest (flat dues) → p ≡ passes C (basic at i rest)) → Passes C (placed at (Plain i) ∷ xs) p
+passes_basic C at i xs p e = passes_shape C at (Plain i) xs p (λ nodes dues s. e s.0 dues s.2 ∙ ap (passes C) (sym s.1))
 
 pub passes_jump : (C : Ctx) (at : ℕ) (j : Jump) (xs : List Placed) (p : Bool) → ((rest : Nodes) → p ≡ passes C (jump at j rest)) → Passes C (placed at (Goes j) ∷ xs) p
 passes_jump C at j xs p e = passes_shape C at (Goes j) xs p (λ nodes dues s. e s.0 ∙ ap (passes C) (sym s.1))
@@ -79,6 +93,39 @@ passes_else C at xs = passes_shape C at Else xs true (λ nodes dues s. ap (passe
 
 pub passes_end : (C : Ctx) (at : ℕ) (xs : List Placed) → Passes C (placed at End ∷ xs) true
 passes_end C at xs = passes_shape C at End xs true (λ nodes dues s. ap (passes C) (sym s.0))
+
+-- to the first one of the code that is left
+pub passes_first : (C : Ctx) (targets : List ℕ) (ops : List Op) (pc : ℕ) (d : Op) (p : Bool) → pc < length ops → Passes C (placed (get_or ops pc d).at (item_of targets (get_or ops pc d).code) ∷ drop (pc + 1) (code_of targets ops)) p → Passes C (drop pc (code_of targets ops)) p
+passes_first C targets ops pc d p lt h =
+    let one : pc + 1 ≡ suc pc = omega arith in
+    subst (λ xs. Passes C xs p) (sym (begins_read targets ops pc d lt)) (subst (λ n. Passes C (placed (get_or ops pc d).at (item_of targets (get_or ops pc d).code) ∷ drop n (code_of targets ops)) p) one h)
+
+-- how many are taken at once
+pub at_once_nothing : (C : Ctx) (n : ℕ) (targets : List ℕ) (ops : List Op) → length ops ≤ n → AtOnce C (drop n (code_of targets ops)) 0
+at_once_nothing C n targets ops le nodes dues e =
+    let none : drop n (code_of targets ops) ≡ [] = drop_all n (code_of targets ops) (omega (arith, le, code_length targets ops)) in
+    ap (at_once C) (sym (nothing_left nodes dues (sym none ∙ e)))
+
+pub at_once_basic : (C : Ctx) (at : ℕ) (i : Basic) (xs : List Placed) (n : ℕ) → n ≡ (if needs C at i then 0 else takes i) → AtOnce C (placed at (Plain i) ∷ xs) n
+at_once_basic C at i xs n same nodes dues e = let s = shape nodes dues at (Plain i) xs e in same ∙ ap (at_once C) (sym s.1)
+
+pub at_once_jump : (C : Ctx) (at : ℕ) (j : Jump) (xs : List Placed) → AtOnce C (placed at (Goes j) ∷ xs) 0
+at_once_jump C at j xs nodes dues e = let s = shape nodes dues at (Goes j) xs e in ap (at_once C) (sym s.1)
+
+pub at_once_block : (C : Ctx) (at : ℕ) (t : Option ValType) (xs : List Placed) → AtOnce C (placed at (Opens t) ∷ xs) 0
+at_once_block C at t xs nodes dues e = let s = shape nodes dues at (Opens t) xs e in ap (at_once C) (sym s.3)
+
+pub at_once_loop : (C : Ctx) (at : ℕ) (t : Option ValType) (xs : List Placed) → AtOnce C (placed at (OpensLoop t) ∷ xs) 0
+at_once_loop C at t xs nodes dues e = let s = shape nodes dues at (OpensLoop t) xs e in ap (at_once C) (sym s.3)
+
+pub at_once_if : (C : Ctx) (at : ℕ) (t : Option ValType) (xs : List Placed) → AtOnce C (placed at (OpensIf t) ∷ xs) 0
+at_once_if C at t xs nodes dues e = let s = shape nodes dues at (OpensIf t) xs e in ap (at_once C) (sym s.5)
+
+pub at_once_else : (C : Ctx) (at : ℕ) (xs : List Placed) → AtOnce C (placed at Else ∷ xs) 0
+at_once_else C at xs nodes dues e = let s = shape nodes dues at Else xs e in ap (at_once C) (sym s.0)
+
+pub at_once_end : (C : Ctx) (at : ℕ) (xs : List Placed) → AtOnce C (placed at End ∷ xs) 0
+at_once_end C at xs nodes dues e = let s = shape nodes dues at End xs e in ap (at_once C) (sym s.0)
 
 -- in the code behind an instruction
 passes_behind : (C : Ctx) (body : Body) (p : Bool) (pc : ℕ) (xs : List Op) → xs ≡ body.ops → ((targets : List ℕ) → Passes C (drop (pc + 1) (code_of targets xs)) p) → Passes C (drop (suc pc) (code_in body)) p

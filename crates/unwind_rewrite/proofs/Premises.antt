@@ -24,7 +24,8 @@ use Rattle.wasm_laws.proofs.Validity.{typed}
 use Rattle.wasm_syntax.specs.Valid.{body_of as body_in}
 use Rattle.rewrite_bodies.specs.Numbering.{helper_base, is_in}
 use Rattle.rewrite_bodies.specs.calls.Rewrite.{body, laid}
-use Rattle.rewrite_bodies.specs.calls.Slots.{Landing, Ctx, ctx_of, slots_of, groups}
+use Rattle.rewrite_bodies.specs.calls.Slots.{Landing, Derivation, Ctx, ctx_of, slots_of, groups}
+use Rattle.rewrite_bodies.specs.calls.Derived.{count_of, derived_in}
 use Rattle.wasm_syntax.specs.SameCode.{body_code}
 use Rattle.rewrite_modules.specs.calls.FlatCode.{body_of}
 use Rattle.rewrite_modules.specs.calls.Instrument.{new_body}
@@ -129,13 +130,13 @@ module _ (m : Module) (a : Accepted m) (f : ℕ) (b : Body) (here : body_in m f 
 
   module _ (plan : Planned) (tree : Tree) (type : FuncType) (is : function_at p f ≡ Some (defined b tree type)) (planned : IsPlan p f b tree type plan) where
     abbrev C : Ctx
-    C = context m plan.locals plan.slots f (gives_of m f) [] []
+    C = context m plan.locals plan.slots f (gives_of m f) [] [] []
 
     abbrev D : Ctx
     D = ctx_of p f b type (slots_of p f b tree type)
 
     abbrev made : List ℕ → List ValType → ℕ → Option ValType → Ctx
-    made hs ls n r = record { source = m; base = helper_base m; helpers = hs; locals = ls; slots = n; index = f; result = r; landings = []; exposed = [] }
+    made hs ls n r = record { source = m; base = helper_base m; helpers = hs; locals = ls; slots = n; index = f; result = r; landings = []; exposed = []; derivations = [] }
 
     same : C ≡ D
     same =
@@ -157,66 +158,79 @@ module _ (m : Module) (a : Accepted m) (f : ℕ) (b : Body) (here : body_in m f 
       arms = armed (body_context m type b) tree.nodes [] (reverse type.results) writes.arms (typed_.bodies f b tree type is);
     })
 
-    -- with any offsets and landings
-    fine_with : (os : List ℕ) (xs : List Landing) → Fine (landed C os xs) [] tree.nodes
-    fine_with os xs = record { room = room_landed C os xs [] tree.nodes fine.room; arms = fine.arms }
+    -- with any offsets, landings and derivations
+    fine_with : (os : List ℕ) (xs : List Landing) (ds : List Derivation) → Fine (landed C os xs ds) [] tree.nodes
+    fine_with os xs ds = record { room = room_landed C os xs ds [] tree.nodes fine.room; arms = fine.arms }
 
-    can_be : (os : List ℕ) (xs : List Landing) → CanBeWritten (landed C os xs) b
-    can_be os xs = record { tree = tree; writes = writes; fine = fine_with os xs }
+    can_be : (os : List ℕ) (xs : List Landing) (ds : List Derivation) → CanBeWritten (landed C os xs ds) b
+    can_be os xs ds = record { tree = tree; writes = writes; fine = fine_with os xs ds }
 
     -- the operands of its own have slots
-    low_ones : (os : List ℕ) (xs : List Landing) → xs ≡ landings_from (landed C os []) [] tree.nodes [] → LowLandings (landed C os xs)
-    low_ones os xs e =
-        let D = landed C os [] in
-        subst (λ ys. LowLandings (landed C os ys)) (sym e) (low_in (landings_from D [] tree.nodes []) (fine_landings D [] tree.nodes [] tt (fine_with os []).room tt))
+    low_ones : (os : List ℕ) (xs : List Landing) (ds : List Derivation) → xs ≡ landings_from (landed C os [] []) [] tree.nodes [] → LowLandings (landed C os xs ds)
+    low_ones os xs ds e =
+        let D = landed C os [] [] in
+        subst (λ ys. LowLandings (landed C os ys ds)) (sym e) (low_in (landings_from D [] tree.nodes []) (fine_landings D [] tree.nodes [] tt (fine_with os [] []).room tt))
       where
-        low_in : (xs : List Landing) → AllFine (landed C os []) xs → (n : ℕ) (x : Landing) → slice_get xs n ≡ Some x → length x.places ≤ C.slots
+        low_in : (xs : List Landing) → AllFine (landed C os [] []) xs → (n : ℕ) (x : Landing) → slice_get xs n ≡ Some x → length x.places ≤ C.slots
         low_in [] h n x e = absurd (cc)
         low_in (y ∷ xs) h zero x e = let same : y ≡ x = ap (λ o. unwrap_or o y) e in subst (λ (z : Landing). length z.places ≤ C.slots) same h.0.0
         low_in (y ∷ xs) h (suc n) x e = low_in xs h.1 n x e
 
     -- what is written is the body of the definitions
-    written_is : (out : Body) (os : List ℕ) (xs : List Landing) → os ≡ exposed_in m.memories tree.nodes → xs ≡ landings_from (landed C os []) [] tree.nodes [] → ((t : Tree) → Writes b.targets b.ops t → Fine (landed C os xs) [] t.nodes → body_code out ≡ body_code (body_of (b.groups ++ groups C.slots) (laid (landed C os xs) t.nodes))) → body_code out ≡ body_code (new_body p f (function_at p f))
-    written_is out os xs own e h =
-        h tree writes (fine_with os xs)
-        ∙ ap (λ ys. body_code (body_of (b.groups ++ groups C.slots) (laid (landed C os ys) tree.nodes))) e
-        ∙ ap (λ ps. body_code (body_of (b.groups ++ groups C.slots) (laid (landed C ps (landings_from (landed C ps []) [] tree.nodes [])) tree.nodes))) own
+    written_is : (out : Body) (os : List ℕ) (xs : List Landing) (ds : List Derivation) → os ≡ exposed_in m.memories tree.nodes → xs ≡ landings_from (landed C os [] []) [] tree.nodes [] → ds ≡ derived_in (count_of (type_at m f)) C.locals os tree.nodes
+        → ((t : Tree) → Writes b.targets b.ops t → Fine (landed C os xs ds) [] t.nodes → body_code out ≡ body_code (body_of (b.groups ++ groups C.slots) (laid (landed C os xs ds) t.nodes))) → body_code out ≡ body_code (new_body p f (function_at p f))
+    written_is out os xs ds own e d h =
+        let count = count_of (type_at m f) in
+        h tree writes (fine_with os xs ds)
+        ∙ ap (λ ys. body_code (body_of (b.groups ++ groups C.slots) (laid (landed C os ys ds) tree.nodes))) e
+        ∙ ap (λ es. body_code (body_of (b.groups ++ groups C.slots) (laid (landed C os (landings_from (landed C os [] []) [] tree.nodes []) es) tree.nodes))) d
+        ∙ ap (λ ps. body_code (body_of (b.groups ++ groups C.slots) (laid (landed C ps (landings_from (landed C ps [] []) [] tree.nodes []) (derived_in count C.locals ps tree.nodes)) tree.nodes))) own
         ∙ ap (λ (c : Ctx). body_code (body_of (b.groups ++ groups c.slots) (body c tree.nodes))) same
         ∙ sym (ap (λ q. body_code (new_body p f q)) is)
 
   -- there is a tree
-  pub can : (plan : Planned) → IsPlanIn m f plan → (os : List ℕ) (xs : List Landing) → CanBeWritten (context m plan.locals plan.slots f (gives_of m f) xs os) b
-  can plan planned os xs = can_be plan found.tree found.type found.is (planned a b found.tree found.type found.is) os xs
+  pub can : (plan : Planned) → IsPlanIn m f plan → (os : List ℕ) (xs : List Landing) (ds : List Derivation) → CanBeWritten (context m plan.locals plan.slots f (gives_of m f) xs os ds) b
+  can plan planned os xs ds = can_be plan found.tree found.type found.is (planned a b found.tree found.type found.is) os xs ds
 
-  pub low : (plan : Planned) → IsPlanIn m f plan → (os : List ℕ) (xs : List Landing) → ((t : Tree) → Writes b.targets b.ops t → xs ≡ landings_from (context m plan.locals plan.slots f (gives_of m f) [] os) [] t.nodes []) → LowLandings (context m plan.locals plan.slots f (gives_of m f) xs os)
-  low plan planned os xs e =
+  pub low : (plan : Planned) → IsPlanIn m f plan → (os : List ℕ) (xs : List Landing) (ds : List Derivation) → ((t : Tree) → Writes b.targets b.ops t → xs ≡ landings_from (context m plan.locals plan.slots f (gives_of m f) [] os []) [] t.nodes []) → LowLandings (context m plan.locals plan.slots f (gives_of m f) xs os ds)
+  low plan planned os xs ds e =
       let is = planned a b found.tree found.type found.is in
-      low_ones plan found.tree found.type found.is is os xs (e found.tree (writes plan found.tree found.type found.is is))
+      low_ones plan found.tree found.type found.is is os xs ds (e found.tree (writes plan found.tree found.type found.is is))
 
-pub is_rewritten : {E : Type 0} (m : Module) (f : ℕ) (b : Body) → body_in m f ≡ Some b → (plan : Planned) → IsPlanIn m f plan → (os : List ℕ) (xs : List Landing) → ((t : Tree) → Writes b.targets b.ops t → os ≡ exposed_in m.memories t.nodes) → ((t : Tree) → Writes b.targets b.ops t → xs ≡ landings_from (context m plan.locals plan.slots f (gives_of m f) [] os) [] t.nodes []) → (C : Ctx) → C ≡ context m plan.locals plan.slots f (gives_of m f) xs os → (r : Result Body E)
+pub is_rewritten : {E : Type 0} (m : Module) (f : ℕ) (b : Body) → body_in m f ≡ Some b → (plan : Planned) → IsPlanIn m f plan → (os : List ℕ) (xs : List Landing) (ds : List Derivation) → ((t : Tree) → Writes b.targets b.ops t → os ≡ exposed_in m.memories t.nodes)
+    → ((t : Tree) → Writes b.targets b.ops t → xs ≡ landings_from (context m plan.locals plan.slots f (gives_of m f) [] os []) [] t.nodes []) → ((t : Tree) → Writes b.targets b.ops t → ds ≡ derived_in (count_of (type_at m f)) plan.locals os t.nodes)
+    → (C : Ctx) → C ≡ context m plan.locals plan.slots f (gives_of m f) xs os ds → (r : Result Body E)
     → ((t : Tree) → Writes b.targets b.ops t → Fine C [] t.nodes → IfOk r (λ out. body_code out ≡ body_code (body_of (b.groups ++ groups C.slots) (laid C t.nodes)))) → IfOk r (IsRewritten m f)
-is_rewritten m f b here plan planned os xs own es C e (Err x) h = tt
-is_rewritten m f b here plan planned os xs own es C e (Ok out) h = λ a.
+is_rewritten m f b here plan planned os xs ds own es derived C e (Err x) h = tt
+is_rewritten m f b here plan planned os xs ds own es derived C e (Ok out) h = λ a.
     let q = found m a f b here in
     let is = planned a b q.tree q.type q.is in
-    written_is m a f b here plan q.tree q.type q.is is out os xs (own q.tree (writes m a f b here plan q.tree q.type q.is is)) (es q.tree (writes m a f b here plan q.tree q.type q.is is))
+    let w = writes m a f b here plan q.tree q.type q.is is in
+    written_is m a f b here plan q.tree q.type q.is is out os xs ds (own q.tree w) (es q.tree w) (derived q.tree w)
     (subst (λ (c : Ctx). (t : Tree) → Writes b.targets b.ops t → Fine c [] t.nodes → body_code out ≡ body_code (body_of (b.groups ++ groups c.slots) (laid c t.nodes))) e h)
 
 -- the context that is made is that of the plan
-pub planned_context : (m : Module) (f : ℕ) (plan : Planned) (os : List ℕ) (xs : List Landing) {C : Ctx} {parts : Module} {ls ts : List ValType} {n : ℕ} {gives : Option ValType} → C ≡ context m ls n f gives xs os → ls ≡ ts → ts ≡ plan.locals → n ≡ plan.slots → gives ≡ gives_of parts f → parts ≡ m → C ≡ context m plan.locals plan.slots f (gives_of m f) xs os
-planned_context m f plan os xs {n = n} {gives = gives} made locals types heights result source =
+pub planned_context : (m : Module) (f : ℕ) (plan : Planned) (os : List ℕ) (xs : List Landing) (ds : List Derivation) {C : Ctx} {parts : Module} {ls ts : List ValType} {n : ℕ} {gives : Option ValType} → C ≡ context m ls n f gives xs os ds → ls ≡ ts → ts ≡ plan.locals → n ≡ plan.slots → gives ≡ gives_of parts f → parts ≡ m → C ≡ context m plan.locals plan.slots f (gives_of m f) xs os ds
+planned_context m f plan os xs ds {n = n} {gives = gives} made locals types heights result source =
     made
-    ∙ ap (λ ls. context m ls n f gives xs os) (locals ∙ types)
-    ∙ ap (λ n. context m plan.locals n f gives xs os) heights
-    ∙ ap (λ g. context m plan.locals plan.slots f g xs os) (result ∙ ap (λ (x : Module). gives_of x f) source)
+    ∙ ap (λ ls. context m ls n f gives xs os ds) (locals ∙ types)
+    ∙ ap (λ n. context m plan.locals n f gives xs os ds) heights
+    ∙ ap (λ g. context m plan.locals plan.slots f g xs os ds) (result ∙ ap (λ (x : Module). gives_of x f) source)
 
--- the offsets and the landings that were noted are the function's own
+-- the offsets and the landings that were noted, and the derivations that were found, are the function's own
 pub own_exposed : (m : Module) (b : Body) (os : List ℕ) {parts : Module} {ops : List Op} → parts ≡ m → ops ≡ b.ops → ((targets : List ℕ) (t : Tree) → Writes targets ops t → os ≡ exposed_in parts.memories t.nodes) → (t : Tree) → Writes b.targets b.ops t → os ≡ exposed_in m.memories t.nodes
 own_exposed m b os source code noted t w = noted b.targets t (subst (λ (o : List Op). Writes b.targets o t) (sym code) w) ∙ ap (λ (x : Module). exposed_in x.memories t.nodes) source
 
-pub own_landings : (m : Module) (f : ℕ) (plan : Planned) (b : Body) (os : List ℕ) (xs : List Landing) {parts : Module} {ts : List ValType} {ops : List Op} → ts ≡ plan.locals → parts ≡ m → ops ≡ b.ops → ((C : Ctx) (targets : List ℕ) (t : Tree) → C.locals ≡ ts → C.source ≡ parts → C.exposed ≡ os → Writes targets ops t → xs ≡ landings_from C [] t.nodes []) → (t : Tree) → Writes b.targets b.ops t → xs ≡ landings_from (context m plan.locals plan.slots f (gives_of m f) [] os) [] t.nodes []
+pub own_landings : (m : Module) (f : ℕ) (plan : Planned) (b : Body) (os : List ℕ) (xs : List Landing) {parts : Module} {ts : List ValType} {ops : List Op} → ts ≡ plan.locals → parts ≡ m → ops ≡ b.ops → ((C : Ctx) (targets : List ℕ) (t : Tree) → C.locals ≡ ts → C.source ≡ parts → C.exposed ≡ os → Writes targets ops t → xs ≡ landings_from C [] t.nodes []) → (t : Tree) → Writes b.targets b.ops t → xs ≡ landings_from (context m plan.locals plan.slots f (gives_of m f) [] os []) [] t.nodes []
 own_landings m f plan b os xs types source code noted t w =
-    noted (context m plan.locals plan.slots f (gives_of m f) [] os) b.targets t (sym types) (sym source) refl (subst (λ (o : List Op). Writes b.targets o t) (sym code) w)
+    noted (context m plan.locals plan.slots f (gives_of m f) [] os []) b.targets t (sym types) (sym source) refl (subst (λ (o : List Op). Writes b.targets o t) (sym code) w)
+
+pub own_derivations : (m : Module) (f : ℕ) (plan : Planned) (b : Body) (os : List ℕ) (ds : List Derivation) {parts : Module} {ts : List ValType} {ops : List Op} → ts ≡ plan.locals → parts ≡ m → ops ≡ b.ops
+    → ((targets : List ℕ) (t : Tree) → Writes targets ops t → ds ≡ derived_in (count_of (type_at parts f)) ts os t.nodes) → (t : Tree) → Writes b.targets b.ops t → ds ≡ derived_in (count_of (type_at m f)) plan.locals os t.nodes
+own_derivations m f plan b os ds {ts = ts} types source code found t w =
+    found b.targets t (subst (λ (o : List Op). Writes b.targets o t) (sym code) w)
+    ∙ ap (λ (x : Module). derived_in (count_of (type_at x f)) ts os t.nodes) source
+    ∙ ap (λ ls. derived_in (count_of (type_at m f)) ls os t.nodes) types
 
 -- what is promised of it
 pub promised : {E : Type 0} (m : Module) (f : ℕ) (r : Result Body E) → IfOk r (IsRewritten m f) → (a : Accepted m) (i : ℕ) (old : Body) → f ≡ length m.imports + i → slice_get m.bodies i ≡ Some old → IfOk r (BodyPromised m a.premises.whole i old)

@@ -24,7 +24,7 @@ ghost use Rattle.unwind_rewrite.specs.calls.Rewritten.{Ascends, IsPlanIn, IsRewr
 use crate::{close_body, open_body, with_added, write_nodes};
 use causes::NoMemory;
 use index_map::IndexMap;
-use operand_spill::{SlotPlan, body_at, exposed, landings};
+use operand_spill::{SlotPlan, body_at, derivations, exposed, landings};
 use pm_text::Items;
 use rewrite_code::{CodeWriter, FunctionContext};
 use std::alloc::Global;
@@ -97,7 +97,17 @@ pub fn rewrite_body(
     let result = gives(parts, func);
     let guarded = exposed(alloc, parts, body.ops.as_slice())?;
     let found = landings(alloc, plan.types(), parts, body.ops.as_slice(), &guarded)?;
+    let derived = derivations(
+        alloc,
+        parts,
+        func,
+        plan.types(),
+        body.ops.as_slice(),
+        &guarded,
+    )?;
     let heights = plan.heights();
-    let context = FunctionContext::new(numbers, locals, heights, func, result, found, guarded);
+    let context = FunctionContext::new(
+        numbers, locals, heights, func, result, found, guarded, derived,
+    );
     write_body(alloc, &context, parts, body)
 }

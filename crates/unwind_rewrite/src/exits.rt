@@ -1,19 +1,21 @@
 //! The body of a rewritten function around its nodes: a block behind which the function returns, in
 //! those of its landings, in a block behind which the frame is handed over.
 
-ghost use Rattle.std.specs.Prelude.{◌≡◌, ◌≤◌, [], length, OnOk};
+ghost use Rattle.std.specs.Prelude.{◌≡◌, ◌≤◌, ◌∷◌, [], length, OnOk};
 ghost use Rattle.wasm_syntax.specs.Tree.{Nodes, block};
 ghost use Rattle.rewrite_bodies.specs.Numbering.{frame_import};
 ghost use Rattle.rewrite_bodies.specs.calls.Slots.{kind_at, offset_at};
 ghost use Rattle.rewrite_bodies.specs.calls.Pieces.{get, const, i32, call};
-ghost use Rattle.rewrite_bodies.specs.calls.Rewrite.{rewrite, zero_result, raise_flag, exit_code};
+ghost use Rattle.rewrite_bodies.specs.calls.Rewrite.{rewrite, zero_result, raise_flag};
+ghost use Rattle.rewrite_bodies.specs.calls.Rewrite.{worked_out, exit_code};
 ghost use Rattle.rewrite_bodies.specs.calls.Rewrite.{hand_carried, landing_code, laid};
 ghost use Rattle.rewrite_code.specs.calls.Writing.{Written, Emits, EmitsLast, Opens};
+ghost use Rattle.rewrite_code.specs.calls.KeptDerivations.{derivation};
 ghost use Rattle.rewrite_code.specs.calls.KeptLandings.{landing as landing_in};
 ghost use Rattle.unwind_rewrite.specs.calls.Bodies.{OpensBody, OpensNested, ClosesNested, LowLandings};
 
 use causes::NoMemory;
-use rewrite_code::{CodeWriter, FunctionContext, Landing};
+use rewrite_code::{CodeWriter, Derivation, FunctionContext, Landing};
 use wasm_syntax::{Basic, ValType, Value};
 
 /// A zero, where there is a result.
@@ -58,11 +60,33 @@ fn end_frame(context: &FunctionContext<'_, '_>, writer: &mut CodeWriter) -> Resu
     writer.call(context.map().frame_import())
 }
 
-/// Behind the exit block: the locals and the end of the frame are handed over, the flag is raised,
-/// and the function returns.
+/// A local is worked out of two others.
+fn work_out(writer: &mut CodeWriter, found: &Derivation) -> Result<(), NoMemory>
+    ensures { OnOk result (Emits (worked_out (derivation found.now ∷ [])) writer.old writer.new) }
+{
+    writer.basic(Basic::LocalGet(found.left))?;
+    writer.basic(Basic::LocalGet(found.right))?;
+    writer.basic(found.instruction)?;
+    writer.basic(Basic::LocalSet(found.made))
+}
+
+/// Locals that need not be kept until the frame is left are worked out, the first one first.
+fn work_out_all(context: &FunctionContext<'_, '_>, writer: &mut CodeWriter) -> Result<(), NoMemory>
+    ensures { OnOk result (Emits (worked_out context.now.derivations) writer.old writer.new) }
+{
+    let found = context.derivations();
+    for number in 0..found.len() {
+        work_out(writer, &found[number])?;
+    }
+    Ok(())
+}
+
+/// Behind the exit block: locals are worked out, the locals and the end of the frame are handed
+/// over, the flag is raised, and the function returns.
 fn exit(context: &FunctionContext<'_, '_>, writer: &mut CodeWriter) -> Result<(), NoMemory>
     ensures { OnOk result (EmitsLast (exit_code context.now) writer.old writer.new) }
 {
+    work_out_all(context, writer)?;
     context.hand_locals(writer)?;
     end_frame(context, writer)?;
     raise_flag(context, writer)?;

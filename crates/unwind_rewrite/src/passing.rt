@@ -1,26 +1,79 @@
-//! Whether an operand passes: the next instruction takes it, before anything can be handed over.
+//! Whether an operand passes: it is taken before anything can be handed over, at once or behind one
+//! instruction that takes none.
 
-ghost use Rattle.std.specs.Prelude.{◌≡◌, ℕ, ◌&&◌, not, ◌∷◌, List, drop};
-ghost use Rattle.wasm_syntax.specs.Tree.{Nodes as NodesOf, Placed, placed, jump, item_of, jump_of, code_of};
+ghost use Rattle.std.specs.Prelude.{◌≡◌, ℕ, if◌then◌else◌, ◌∷◌, List, drop};
+ghost use Rattle.wasm_syntax.specs.Tree.{Nodes as NodesOf, Placed, placed, basic, jump, write};
+ghost use Rattle.wasm_syntax.specs.Tree.{item_of, jump_of, code_of};
 ghost use Rattle.rewrite_bodies.specs.calls.Slots.{Ctx as CtxOf};
 ghost use Rattle.wasm_syntax.specs.Effect.{takes};
 ghost use Rattle.rewrite_bodies.specs.calls.Facts.{needs};
-ghost use Rattle.rewrite_bodies.specs.calls.Rewrite.{any, passes};
-ghost use Rattle.operand_spill.specs.calls.Standing.{Passes};
+ghost use Rattle.rewrite_bodies.specs.calls.Rewrite.{passes};
+ghost use Rattle.operand_spill.specs.calls.Standing.{Due, flat, Passes};
+ghost use Rattle.unwind_rewrite.specs.calls.Points.{AtOnce};
 
 use guard_insert::needs;
 use operand_spill::takes;
 use rewrite_code::FunctionContext;
 use wasm_syntax::{Basic, Instr, Jump, Op};
 
-/// To a basic instruction: it takes an operand, and has no guard.
-fn passes_to_basic(context: &FunctionContext<'_, '_>, offset: u32, basic: Basic) -> bool
-    ensures { result ≡ any (takes basic) && not (needs context.now offset basic) }
+/// How many operands a basic instruction takes, where it has no guard.
+fn basic_at_once(context: &FunctionContext<'_, '_>, at: u32, instruction: Basic) -> usize
+    ensures { result ≡ (if needs context.now at instruction then 0 else takes instruction) }
 {
-    if takes(basic) == 0 {
-        false
+    if needs(context, at, &instruction) {
+        0
     } else {
-        !needs(context, offset, &basic)
+        takes(instruction)
+    }
+}
+
+/// How many operands an instruction takes, where it is a basic one without a guard.
+fn taken_at_once(context: &FunctionContext<'_, '_>, op: Op) -> usize
+    ensures { (targets : List ℕ) (code : List Placed)
+        → AtOnce context.now (placed op.at (item_of targets op.code) ∷ code) result }
+{
+    match op.code {
+        Instr::Basic(basic) => basic_at_once(context, op.at, basic),
+        Instr::Jump(_) => 0,
+        Instr::Block(_) => 0,
+        Instr::Loop(_) => 0,
+        Instr::If(_) => 0,
+        Instr::Else => 0,
+        Instr::End => 0,
+    }
+}
+
+/// The same of the instruction with this index, where there is one.
+fn at_once(context: &FunctionContext<'_, '_>, ops: &[Op], index: usize) -> usize
+    ensures { (targets : List ℕ)
+        → AtOnce context.now (drop index (code_of targets ops.now)) result }
+{
+    if index < ops.len() {
+        taken_at_once(context, ops[index])
+    } else {
+        0
+    }
+}
+
+/// To a basic instruction in front of the one with an index: it has no guard, and takes an operand;
+/// or takes none, and the one behind it takes another one than that which it pushed.
+fn passes_to_basic(
+    context: &FunctionContext<'_, '_>,
+    offset: u32,
+    instruction: Basic,
+    ops: &[Op],
+    behind: usize,
+) -> bool
+    ensures { (targets : List ℕ) (rest : NodesOf) (dues : List Due)
+        → drop behind (code_of targets ops.now) ≡ write rest (flat dues)
+        → result ≡ passes context.now (basic offset instruction rest) }
+{
+    if needs(context, offset, &instruction) {
+        false
+    } else if takes(instruction) == 0 {
+        at_once(context, ops, behind) > 1
+    } else {
+        true
     }
 }
 
@@ -40,13 +93,14 @@ fn passes_to_jump(code: Jump) -> bool
     }
 }
 
-/// To an instruction; an `else` or `end` hands it to the code behind the block.
-fn passes_to(context: &FunctionContext<'_, '_>, op: Op) -> bool
-    ensures { (targets : List ℕ) (code : List Placed)
-        → Passes context.now (placed op.at (item_of targets op.code) ∷ code) result }
+/// To an instruction in front of the one with an index; an `else` or `end` hands it to the code
+/// behind the block.
+fn passes_to(context: &FunctionContext<'_, '_>, op: Op, ops: &[Op], behind: usize) -> bool
+    ensures { (targets : List ℕ) → Passes context.now
+        (placed op.at (item_of targets op.code) ∷ drop behind (code_of targets ops.now)) result }
 {
     match op.code {
-        Instr::Basic(basic) => passes_to_basic(context, op.at, basic),
+        Instr::Basic(basic) => passes_to_basic(context, op.at, basic, ops, behind),
         Instr::Jump(jump) => passes_to_jump(jump),
         Instr::Block(_) => false,
         Instr::Loop(_) => false,
@@ -62,7 +116,7 @@ pub(crate) fn passes(context: &FunctionContext<'_, '_>, ops: &[Op], index: usize
         → Passes context.now (drop index (code_of targets ops.now)) result }
 {
     if index < ops.len() {
-        passes_to(context, ops[index])
+        passes_to(context, ops[index], ops, index + 1)
     } else {
         true
     }

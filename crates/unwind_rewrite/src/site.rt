@@ -3,8 +3,7 @@
 use rewrite_code::OperandPlaces;
 
 /// How many labels are open around an instruction of a body, where the operands are before it, its
-/// code offset, and whether the next instruction takes what it leaves, before anything is handed
-/// over.
+/// code offset, and whether what it leaves is taken before anything is handed over.
 #[derive(Drop)]
 pub struct Site<'p> {
     pub labels: u32,

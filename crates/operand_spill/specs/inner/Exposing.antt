@@ -69,14 +69,18 @@ abbrev pub older : List (List Fact) → List (List Fact)
 older [] = []
 older (fs ∷ fss) = fss
 
+-- a block, with all facts that are there; and a loop
 abbrev pub entered : (ℕ → Bool) → Here → Here
-entered these w = here (others these w.facts) no_copies (others these w.facts ∷ w.saved)
+entered these w = here w.facts no_copies (others these w.facts ∷ w.saved)
+
+abbrev pub begun : (ℕ → Bool) → Here → Here
+begun these w = here (others these w.facts) no_copies (others these w.facts ∷ w.saved)
 
 abbrev pub passed : (ℕ → Bool) → Here → Item → Here
 passed these w (Plain i) = here (facts_behind i w.copies w.facts) (copies_behind i w.copies) w.saved
 passed these w (Goes j) = here w.facts no_copies w.saved
 passed these w (Opens t) = entered these w
-passed these w (OpensLoop t) = entered these w
+passed these w (OpensLoop t) = begun these w
 passed these w (OpensIf t) = entered these w
 passed these w Else = here (latest w.saved) no_copies w.saved
 passed these w End = here (latest w.saved) no_copies (older w.saved)

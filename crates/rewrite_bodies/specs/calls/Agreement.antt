@@ -1,5 +1,5 @@
 -- The configuration of the rewritten module that stands for one of the original.
-use Rattle.std.specs.Prelude.{◌≡◌, ℕ, suc, ◌+◌, ◌*◌, ◌<◌, ◌≤◌, List, [], ◌∷◌, ◌++◌, length, Option, Some, None, Bool, true, false, slice_get}
+use Rattle.std.specs.Prelude.{◌≡◌, ℕ, zero, suc, ◌+◌, ◌*◌, ◌<◌, ◌≤◌, List, [], ◌∷◌, ◌++◌, length, Option, Some, None, Bool, true, false, slice_get}
 use Rattle.wasm_syntax.specs.declared.value.ValType.{ValType}
 use Rattle.wasm_syntax.specs.declared.value.Value.{Value}
 use Rattle.wasm_syntax.specs.Numbers.{type_of, types}
@@ -13,11 +13,12 @@ use Rattle.wasm_syntax.specs.declared.value.Value.TheVariants as values
 use Rattle.wasm_syntax.specs.declared.parts.FuncType.{FuncType}
 use Rattle.wasm_syntax.specs.Module.{type_at}
 use Rattle.wasm_syntax.specs.Effect.{takes}
-use Rattle.rewrite_bodies.specs.calls.Rewrite.{with_result, after_call, passes, test_both, rewrite, exit_code, landing_code}
+use Rattle.rewrite_bodies.specs.calls.Rewrite.{with_result, after_call, spare, passes, test_both, rewrite, exit_code, landing_code}
 use Rattle.rewrite_bodies.specs.Numbering.{mapped, place_in, global_types, helper_base, helped, new_entries}
 use Rattle.linear_memory.specs.Memory.{Memory}
 use Rattle.rewrite_bodies.specs.calls.Offsets.{SmallOffset}
 use Rattle.rewrite_bodies.specs.calls.Facts.{exposed_in}
+use Rattle.rewrite_bodies.specs.calls.Derived.{derived_of, DerivedConfig}
 use Rattle.rewrite_bodies.specs.calls.Known.{HasLeast, nodes_in, KnownConfig}
 
 -- the operand is in its slot besides, or is the constant, or in the local
@@ -33,13 +34,13 @@ Holds C l ex js [] (e ∷ es) = ⊥
 Holds C l ex js (v ∷ ops) [] = ⊥
 Holds C l ex js (v ∷ ops) (e ∷ es) = One C l ex (length (es ++ js)) e v × Holds C l ex js ops es
 
--- all but the topmost, where this is not kept
-abbrev pub HoldsBut : Ctx → Bool → List Value → List Value → List Place → List Value → List Place → Type 0
-HoldsBut C false l ex js ops es = Holds C l ex js ops es
-HoldsBut C true l ex js [] [] = Unit {0}
-HoldsBut C true l ex js [] (e ∷ es) = ⊥
-HoldsBut C true l ex js (v ∷ ops) [] = ⊥
-HoldsBut C true l ex js (v ∷ ops) (e ∷ es) = (type_of v ≡ place_type e) × Holds C l ex js ops es
+-- all but so many of the topmost, which need not be kept
+abbrev pub HoldsBut : Ctx → ℕ → List Value → List Value → List Place → List Value → List Place → Type 0
+HoldsBut C zero l ex js ops es = Holds C l ex js ops es
+HoldsBut C (suc n) l ex js [] [] = Unit {0}
+HoldsBut C (suc n) l ex js [] (e ∷ es) = ⊥
+HoldsBut C (suc n) l ex js (v ∷ ops) [] = ⊥
+HoldsBut C (suc n) l ex js (v ∷ ops) (e ∷ es) = (type_of v ≡ place_type e) × HoldsBut C n l ex js ops es
 
 -- a call through the table that is under way: the code that would hand over its operands, and these, which are still there
 pub record UnderWay : Type 0 where
@@ -182,7 +183,7 @@ abbrev pub FitsOpen : Ctx → List Value → List Value → Doing → List Label
 FitsOpen C l ex a [] ss = ⊥
 FitsOpen C l ex a (L ∷ Ls) [] = ⊥
 FitsOpen C l ex (Runs n) (L ∷ Ls) (e ∷ ss) =
-    HoldsBut C (passes C L.nodes) l ex (joined ss) L.operands e × HasLength C ex n × Room C (e ++ joined ss) L.nodes × KindFits C (joined ss) L.kind Ls × FitsLabels C [] ex (awaits (pending L.kind)) Ls ss
+    HoldsBut C (spare C L.nodes) l ex (joined ss) L.operands e × HasLength C ex n × Room C (e ++ joined ss) L.nodes × KindFits C (joined ss) L.kind Ls × FitsLabels C [] ex (awaits (pending L.kind)) Ls ss
 FitsOpen C l ex (Waits a) (L ∷ Ls) (e ∷ ss) = FitsLabels C l ex a (L ∷ Ls) (e ∷ ss)
 
 -- whole pages, and not too many
@@ -226,8 +227,10 @@ pub record FitsFrame (M : Engine) (E : ℕ) (gl : List ValType) (a : Doing) (F :
   pub base : w.ctx.base ≡ helper_base M.program.module_
   pub helpers : w.ctx.helpers ≡ helped M.program
   pub flag : global_types w.ctx.source ≡ gl
-  pub small : 2 * length w.ctx.locals + 4 * w.ctx.slots + 80 ≤ E
+  pub small : 4 * length w.ctx.locals + 4 * w.ctx.slots + 80 ≤ E
   pub exposed : w.ctx.exposed ≡ exposed_in M.program.module_.memories (nodes_in M.program F.function)
+  pub derivations : w.ctx.derivations ≡ derived_of M.program F.function
+  pub few : 3 * length w.ctx.derivations ≤ length w.ctx.locals
   pub narrow : length w.ctx.locals + w.ctx.slots ≤ (greatest M.program).0 + (greatest M.program).1
   pub labels : FitsOpen w.ctx F.locals w.ex a F.labels w.ss
   pub no_kind : NoKind w.ctx w.ex w.under_way
@@ -245,7 +248,7 @@ FitsTop M E gl g wr (F ∷ Fs) [] = ⊥
 FitsTop M E gl g wr (F ∷ Fs) (w ∷ ws) = FitsFrame M E gl (running g) F w × FitsFrames M E gl wr F.result Fs ws
 
 abbrev pub FitsConfig : Engine → ℕ → List ValType → Option ValType → Config → List Wit → Type 0
-FitsConfig M E gl wr c ws = WorldFits M gl c.world × FitsTop M E gl c.world wr c.frames ws × KnownConfig M.program c
+FitsConfig M E gl wr c ws = WorldFits M gl c.world × FitsTop M E gl c.world wr c.frames ws × KnownConfig M.program c × DerivedConfig M.program c
 
 -- what a wrapper's frame is but for its operands
 pub record Wrap : Type 0 where

@@ -1,6 +1,7 @@
 -- Which instructions need a guard: those that can trap and that no fact answers. A fact says that so many bytes from the value of a local on lie
 -- inside the memory, which never gets shorter. An access whose address is a copy of the local shows one, and it answers a later one that ends no
--- further, as long as the local is not written. In a block, and behind it, facts of what went in hold whose local no block of the function writes.
+-- further, as long as the local is not written. A block and the first arm of an `if` begin with the facts that are there; a loop and the second arm do
+-- with those whose local no block of the function writes, and these hold behind all of them too.
 use Rattle.std.specs.Prelude.{ℕ, ◌+◌, ◌*◌, ◌/◌, ◌==◌, ◌&&◌, ◌||◌, nat_le, nat_lt, not, List, [], ◌∷◌, ◌++◌, length, Option, Some, None, Bool, true, false}
 use Rattle.wasm_syntax.specs.declared.instruction.Basic.{Basic}
 use Rattle.wasm_syntax.specs.declared.instruction.Basic.TheVariants.{LocalGet, LocalTee, Load, Store, Const, Eqz, Unary, Compare, Binary, Convert, Extend32, Extend64}
@@ -182,12 +183,12 @@ exposed_from these fs c (basic o i rest) =
     if_exposed (can_trap i && not (is_answered (shown i c) fs)) o (exposed_from these (facts_behind i c fs) (copies_behind i c) rest)
 exposed_from these fs c (jump o j rest) = exposed_from these fs no_copies rest
 exposed_from these fs c (block o t inner end rest) =
-    exposed_from these (others these fs) no_copies inner ++ exposed_from these (others these fs) no_copies rest
+    exposed_from these fs no_copies inner ++ exposed_from these (others these fs) no_copies rest
 exposed_from these fs c (loop o t inner end rest) =
     exposed_from these (others these fs) no_copies inner ++ exposed_from these (others these fs) no_copies rest
 exposed_from these fs c (choose o t a else_at b end rest) =
     let kept = others these fs in
-    exposed_from these kept no_copies a ++ (exposed_from these kept no_copies b ++ exposed_from these kept no_copies rest)
+    exposed_from these fs no_copies a ++ (exposed_from these kept no_copies b ++ exposed_from these kept no_copies rest)
 
 -- by the memories of the module
 abbrev pub exposed_in : List Limits → Nodes → List ℕ

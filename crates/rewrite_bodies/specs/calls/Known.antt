@@ -72,11 +72,11 @@ Sound os these fs c (basic o i rest) =
     (can_trap i ≡ true → among o os ≡ false → is_answered (shown i c) fs ≡ true) × Sound os these (facts_behind i c fs) (copies_behind i c) rest
 Sound os these fs c (jump o j rest) = Sound os these fs no_copies rest
 Sound os these fs c (block o t inner end rest) =
-    Within these inner × Sound os these (others these fs) no_copies inner × Sound os these (others these fs) no_copies rest
+    Within these inner × Sound os these fs no_copies inner × Sound os these (others these fs) no_copies rest
 Sound os these fs c (loop o t inner end rest) =
     Within these inner × Sound os these (others these fs) no_copies inner × Sound os these (others these fs) no_copies rest
 Sound os these fs c (choose o t a else_at b end rest) =
-    (Within these a × Within these b) × (Sound os these (others these fs) no_copies a × Sound os these (others these fs) no_copies b) × Sound os these (others these fs) no_copies rest
+    (Within these a × Within these b) × (Sound os these fs no_copies a × Sound os these (others these fs) no_copies b) × Sound os these (others these fs) no_copies rest
 
 -- ---- what is known in a frame
 

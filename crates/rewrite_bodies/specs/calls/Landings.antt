@@ -15,7 +15,8 @@ use Rattle.wasm_syntax.specs.Module.{type_at}
 use Rattle.wasm_syntax.specs.Machine.{result_of, same_result}
 use Rattle.rewrite_bodies.specs.Numbering.{import_count}
 use Rattle.rewrite_bodies.specs.calls.Facts.{exposed_in, needs}
-use Rattle.rewrite_bodies.specs.calls.Slots.{Place, Spilled, Known, Copied, place_type, Landing, Ctx, less, grown, under, after_plain}
+use Rattle.rewrite_bodies.specs.calls.Derived.{derived_for}
+use Rattle.rewrite_bodies.specs.calls.Slots.{Place, Spilled, Known, Copied, place_type, Landing, Derivation, Ctx, less, grown, under, after_plain}
 
 -- ---- which landing
 
@@ -148,11 +149,13 @@ landings_from C es (loop o t inner end rest) xs = landings_from C (grown t (unde
 landings_from C es (choose o t a else_at b end rest) xs =
     let left = under (less 1 es) in landings_from C (grown t left) rest (landings_from C left b (landings_from C left a xs))
 
--- the function with these offsets and landings
-abbrev pub landed : Ctx → List ℕ → List Landing → Ctx
-landed C os xs =
-    record { source = C.source; base = C.base; helpers = C.helpers; locals = C.locals; slots = C.slots; index = C.index; result = C.result; landings = xs; exposed = os }
+-- the function with these offsets, landings and derivations
+abbrev pub landed : Ctx → List ℕ → List Landing → List Derivation → Ctx
+landed C os xs ds =
+    record { source = C.source; base = C.base; helpers = C.helpers; locals = C.locals; slots = C.slots; index = C.index; result = C.result; landings = xs; exposed = os; derivations = ds }
 
 -- the function with its own ones
 abbrev pub with_landings : Ctx → Nodes → Ctx
-with_landings C nodes = let os = exposed_in C.source.memories nodes in landed C os (landings_from (landed C os []) [] nodes [])
+with_landings C nodes =
+    let os = exposed_in C.source.memories nodes in
+    landed C os (landings_from (landed C os [] []) [] nodes []) (derived_for C.source C.index C.locals nodes)

@@ -39,7 +39,7 @@ load C zero es k = k
 load C (suc m) [] k = k
 load C (suc m) (e ∷ es) k = load C m es (fetch C e (length es) k)
 
--- a result is kept in its slot besides, unless the next instruction takes it
+-- a result is kept in its slot besides, unless it passes
 abbrev pub keep_slot : Bool → Ctx → ValType → List Place → Nodes → Nodes
 keep_slot true C t es k = k
 keep_slot false C t es k = basic 0 (LocalTee (length C.locals + slot C.slots t (length es))) k

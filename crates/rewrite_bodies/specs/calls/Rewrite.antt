@@ -1,11 +1,11 @@
 -- The rewriting of a body: its instructions as they stand, on the same operands, each of which is somewhere besides; guards, which read from
 -- there; and unwinding through a flag. Code is written in front of the code that goes on behind it.
-use Rattle.std.specs.Prelude.{ℕ, zero, suc, ◌+◌, ◌==◌, ◌&&◌, nat_lt, not, List, [], ◌∷◌, length, slice_get, Option, Some, None, option_map, Bool, true, false}
+use Rattle.std.specs.Prelude.{ℕ, zero, suc, pred, ◌+◌, ◌==◌, if◌then◌else◌, nat_lt, List, [], ◌∷◌, length, slice_get, Option, Some, None, option_map, Bool, true, false}
 use Rattle.wasm_syntax.specs.declared.value.ValType.{ValType}
 use Rattle.wasm_syntax.specs.declared.instruction.Basic.{Basic}
 use Rattle.wasm_syntax.specs.declared.value.ValType.TheVariants.{I32}
 use Rattle.int_ops.specs.declared.operators.Binary.TheVariants.{Add, Or}
-use Rattle.wasm_syntax.specs.declared.instruction.Basic.TheVariants.{LocalGet, GlobalGet, GlobalSet, MemoryGrow, Eqz, Binary}
+use Rattle.wasm_syntax.specs.declared.instruction.Basic.TheVariants.{LocalGet, LocalSet, GlobalGet, GlobalSet, MemoryGrow, Eqz, Binary}
 use Rattle.wasm_syntax.specs.declared.parts.FuncType.{FuncType}
 use Rattle.wasm_syntax.specs.Tree.{Jump, Unreachable, Br, BrIf, Return, Call, CallIndirect, Nodes, stop, basic, jump, block, loop, choose}
 use Rattle.wasm_syntax.specs.Module.{type_at}
@@ -13,7 +13,7 @@ use Rattle.wasm_syntax.specs.Effect.{takes}
 use Rattle.wasm_syntax.specs.Run.{table_min}
 use Rattle.wasm_syntax.specs.Machine.{result_of, zero_of}
 use Rattle.rewrite_bodies.specs.Numbering.{import_count, mapped, value_import, frame_import, flag_of, place_in, doubles}
-use Rattle.rewrite_bodies.specs.calls.Slots.{Place, Spilled, place_type, Ctx, kind_at, offset_at, measured, less, grown, under, result_place, after_plain, Landing, local_written}
+use Rattle.rewrite_bodies.specs.calls.Slots.{Place, Spilled, place_type, Ctx, kind_at, offset_at, measured, less, grown, under, result_place, after_plain, Landing, Derivation, local_written}
 use Rattle.rewrite_bodies.specs.calls.Pieces.{get, set, const, i32, call, if_any, fetch, load, keep, store, reload, spill, drops}
 use Rattle.rewrite_bodies.specs.calls.Guards.{measure, set_both, renew_both, guard, kind}
 use Rattle.rewrite_bodies.specs.calls.Facts.{needs}
@@ -73,18 +73,36 @@ abbrev pub any : ℕ → Bool
 any zero = false
 any (suc n) = true
 
--- The next instruction takes the topmost operand, and the frame is not handed over before it has: then the operand is on the stack alone. Where a
--- list of nodes ends, its operands go where the block goes on.
+-- how many operands the first of these nodes takes, where it is a basic instruction without a guard
+abbrev pub at_once : Ctx → Nodes → ℕ
+at_once C stop = 0
+at_once C (basic o i rest) = if needs C o i then 0 else takes i
+at_once C (jump o j rest) = 0
+at_once C (block o t inner end rest) = 0
+at_once C (loop o t inner end rest) = 0
+at_once C (choose o t a else_at b end rest) = 0
+
+-- what an instruction takes; where it takes none, one less than what is taken at once behind it, since it may push one
+abbrev pub or_behind : ℕ → ℕ → ℕ
+or_behind zero behind = pred behind
+or_behind (suc n) behind = suc n
+
+-- How many of the topmost operands are taken before the frame can be handed over: these may be on the stack alone. At most one instruction is
+-- passed over. Where a list of nodes ends, its operands go where the block goes on.
+abbrev pub spare : Ctx → Nodes → ℕ
+spare C stop = 1
+spare C (basic o i rest) = if needs C o i then 0 else or_behind (takes i) (at_once C rest)
+spare C (jump o Unreachable rest) = 0
+spare C (jump o (Call f) rest) = 0
+spare C (jump o (CallIndirect t) rest) = 0
+spare C (jump o j rest) = 1
+spare C (block o t inner end rest) = 0
+spare C (loop o t inner end rest) = 0
+spare C (choose o t a else_at b end rest) = 1
+
+-- the topmost operand is on the stack alone
 abbrev pub passes : Ctx → Nodes → Bool
-passes C stop = true
-passes C (basic o i rest) = any (takes i) && not (needs C o i)
-passes C (jump o Unreachable rest) = false
-passes C (jump o (Call f) rest) = false
-passes C (jump o (CallIndirect t) rest) = false
-passes C (jump o j rest) = true
-passes C (block o t inner end rest) = false
-passes C (loop o t inner end rest) = false
-passes C (choose o t a else_at b end rest) = true
+passes C nodes = any (spare C nodes)
 
 -- ---- basic instructions
 
@@ -198,11 +216,17 @@ zero_result (Some t) k = const (zero_of t) k
 abbrev pub raise_flag : Ctx → Nodes → Nodes
 raise_flag C k = const (i32 1) (basic 0 (GlobalSet (flag_of C.source)) k)
 
+-- these locals are worked out of others, in the order in which they were
+abbrev pub worked_out : List Derivation → Nodes → Nodes
+worked_out [] k = k
+worked_out (d ∷ ds) k =
+    basic 0 (LocalGet d.left) (basic 0 (LocalGet d.right) (basic 0 d.instruction (basic 0 (LocalSet d.made) (worked_out ds k))))
+
 -- behind the exit block
 abbrev pub exit_code : Ctx → Nodes
 exit_code C =
-    hand_locals C 0 C.locals (get C (kind_at C) (const (i32 C.index) (get C (offset_at C) (const (i32 (length C.locals)) (call (frame_import C.source)
-    (raise_flag C (zero_result C.result (jump 0 Return stop))))))))
+    worked_out C.derivations (hand_locals C 0 C.locals (get C (kind_at C) (const (i32 C.index) (get C (offset_at C) (const (i32 (length C.locals)) (call (frame_import C.source)
+    (raise_flag C (zero_result C.result (jump 0 Return stop)))))))))
 
 -- ---- the landings
 

@@ -38,8 +38,16 @@ pub record Landing : Type 0 where
   pub kind : ℕ
   pub part : ℕ
 
+-- a local that is what an instruction gives on the values of two others
+pub record Derivation : Type 0 where
+  pub made : ℕ
+  pub instruction : Basic
+  pub left : ℕ
+  pub right : ℕ
+
 -- what is fixed in a function: its module, the index of the first helper and the types that have one, the types of its locals, the
--- number of heights, its index and its result, its landings, and the offsets of instructions that need a guard
+-- number of heights, its index and its result, its landings, the offsets of instructions that need a guard, and the locals that are worked out
+-- where it is left
 pub record Ctx : Type 0 where
   pub source : Module
   pub base : ℕ
@@ -50,6 +58,7 @@ pub record Ctx : Type 0 where
   pub result : Option ValType
   pub landings : List Landing
   pub exposed : List ℕ
+  pub derivations : List Derivation
 
 -- the added locals, of which all of a type stand together: a slot of type i32 at each height and for a result, the kind and the offset of a
 -- trap, a slot of type i64 at each height and for a result, and the length of the memory
@@ -198,7 +207,7 @@ measured C = is_any C.exposed
 -- what is fixed in function f of a program, before its landings are known
 abbrev pub ctx_of : Program → ℕ → Body → FuncType → ℕ → Ctx
 ctx_of p f b type slots =
-    record { source = p.module_; base = helper_base p.module_; helpers = helped p; locals = type.params ++ declared_locals b.groups; slots = slots; index = f; result = result_of type; landings = []; exposed = [] }
+    record { source = p.module_; base = helper_base p.module_; helpers = helped p; locals = type.params ++ declared_locals b.groups; slots = slots; index = f; result = result_of type; landings = []; exposed = []; derivations = [] }
 
 -- heights do not depend on the number of slots
 abbrev pub slots_of : Program → ℕ → Body → Tree → FuncType → ℕ

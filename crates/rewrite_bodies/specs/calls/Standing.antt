@@ -36,7 +36,7 @@ pub record Speaks (M' : Engine) (m : Module) : Type 0 where
 -- what the rewritten module has for a function
 pub record Linked (M M' : Engine) (E : ℕ) (gl : List ValType) (f : ℕ) (b : Body) (tree : Tree) (type : FuncType) : Type 0 where
   pub slots : ℕ
-  pub small : 2 * length (type.params ++ declared_locals b.groups) + 4 * slots + 80 ≤ E
+  pub small : 4 * length (type.params ++ declared_locals b.groups) + 4 * slots + 80 ≤ E
   pub narrow : length (type.params ++ declared_locals b.groups) + slots ≤ (greatest M.program).0 + (greatest M.program).1
   pub room : Room (ctx_of M.program f b type slots) [] tree.nodes
   pub new : Body

@@ -15,6 +15,7 @@ use Rattle.wasm_syntax.specs.Host.{World}
 use Rattle.wasm_syntax.specs.Machine.{Frame, Config, config, Engine, traps, entered, result_of, deliver, step}
 use Rattle.wasm_syntax.specs.Run.{engine, start_world, cause_of_segments}
 use Rattle.rewrite_bodies.specs.Numbering.{wrapped, wrapper_base, global_types}
+use Rattle.rewrite_bodies.specs.calls.Derived.{DerivedCaller, DerivedCallers}
 use Rattle.rewrite_bodies.specs.calls.Agreement.{Wit, WorldFits, FitsFrame, FitsFrames, FitsConfig, Wrap, w_frame, t_frames, flagged, image, zero_vs, last_result, Waits}
 use Rattle.rewrite_bodies.specs.calls.Standing.{After}
 use Rattle.rewrite_bodies.specs.calls.Steps.{Gets, To}
@@ -59,9 +60,10 @@ module _ (p : Program) (n d : ℕ) where
     -- each step is followed to a configuration that agrees, or to the same end. Where it traps, with another kind than 8, all frames hand
     -- over their values, in at most n steps each, and the wrapper's frame is reached with the flag up, memory and globals as they were.
     pub follows : (W : Wrap) (c : Config) (ws : List Wit) → FitsConfig M n gl W.result c ws → length c.frames ≤ d → After M M' n gl W (image M W c ws) (step M c)
-    -- where a callee has returned with the flag up, one frame hands over its values in at most n steps, and returns with the flag up
-    pub one_frame : (W : Wrap) (F : Frame) (Fs : List Frame) (w : Wit) (ws : List Wit) (g : World) (co : List CollectorCall) (t : Config) (q : ℕ) (r : Option ValType) → FitsFrame M n gl (Waits r) F w → FitsFrames M n gl W.result F.result Fs ws → WorldFits M gl g → Returned W t q r (F ∷ Fs) (w ∷ ws) g co → Returned W t (q + n) F.result Fs ws g (tell_frame 0 F.call F co)
+    -- where a callee has returned with the flag up, one frame hands over its values in at most n steps, and returns with the flag up: so it
+    -- does where its locals that are worked out have their values, as those of each frame of a configuration that agrees have
+    pub one_frame : (W : Wrap) (F : Frame) (Fs : List Frame) (w : Wit) (ws : List Wit) (g : World) (co : List CollectorCall) (t : Config) (q : ℕ) (r : Option ValType) → FitsFrame M n gl (Waits r) F w → DerivedCaller p F → FitsFrames M n gl W.result F.result Fs ws → WorldFits M gl g → Returned W t q r (F ∷ Fs) (w ∷ ws) g co → Returned W t (q + n) F.result Fs ws g (tell_frame 0 F.call F co)
     -- and all do
-    pub all_frames : (W : Wrap) (Fs : List Frame) (ws : List Wit) (g : World) (co : List CollectorCall) (t : Config) (q : ℕ) (r : Option ValType) → FitsFrames M n gl W.result r Fs ws → WorldFits M gl g → Returned W t q r Fs ws g co → To M' 0 (q + length Fs * n) t (config (w_frame W (zero_vs (last_result r Fs) ++ []) ∷ []) (flagged M g (values.I32 1)) (tell_outer Fs co))
+    pub all_frames : (W : Wrap) (Fs : List Frame) (ws : List Wit) (g : World) (co : List CollectorCall) (t : Config) (q : ℕ) (r : Option ValType) → FitsFrames M n gl W.result r Fs ws → DerivedCallers p Fs → WorldFits M gl g → Returned W t q r Fs ws g co → To M' 0 (q + length Fs * n) t (config (w_frame W (zero_vs (last_result r Fs) ++ []) ∷ []) (flagged M g (values.I32 1)) (tell_outer Fs co))
     -- the wrapper hands over the globals and ends in a trap with the flag down, in at most n steps
     pub wrapper : (W : Wrap) (operands : List Value) (g : World) (co : List CollectorCall) → W.rest ≡ after_wrapped p.module_ → WorldFits M gl g → (c : Config) × (c.world ≡ flagged M g (values.I32 0)) × (c.collected ≡ collector_calls.Frame 255 0 0 (length g.globals) ∷ tell_locals g.globals co) × Gets M' 1 n (config (w_frame W operands ∷ []) (flagged M g (values.I32 1)) co) (traps 1 c)

@@ -5,6 +5,7 @@ use Rattle.wasm_syntax.specs.declared.instruction.Instr.TheVariants as instrs
 use Rattle.wasm_syntax.specs.declared.parts.Body.{Body}
 use Rattle.wasm_syntax.specs.Tree.{Nodes, Tree, Item, Placed, placed, write, code_of, Writes}
 use Rattle.rewrite_bodies.specs.calls.Slots.{Ctx}
+use Rattle.rewrite_bodies.specs.calls.Rewrite.{at_once}
 use Rattle.rewrite_code.specs.calls.Writing.{Written}
 use Rattle.operand_spill.specs.calls.Walking.{Walking}
 use Rattle.operand_spill.specs.calls.Standing.{Due, flat, Passes, Fine, Rewrites, Left}
@@ -25,6 +26,10 @@ EndsAt code pc to = (nodes : Nodes) (dues : List Due) → drop pc code ≡ write
 abbrev pub Flows : Ctx → List Placed → Written → Nodes → ℕ → Walking → Written → Flow → Type 0
 Flows C code start whole pc w now flows.Next = Rewrites C code start whole (suc pc) w now
 Flows C code start whole pc w now flows.Ends = (to : ℕ) → EndsAt code pc to → pc ≤ to → Left C code start whole to w now
+
+-- how many operands the node that this code begins with takes, where it is a basic instruction without a guard
+abbrev pub AtOnce : Ctx → List Placed → ℕ → Type 0
+AtOnce C code n = (nodes : Nodes) (dues : List Due) → code ≡ write nodes (flat dues) → n ≡ at_once C nodes
 
 -- what a live instruction with this code offset comes to, wherever it stands; the topmost operand passes to what is behind it, or not
 abbrev pub Advances : Ctx → Bool → ℕ → Item → Walking → Written → Walking → Written → Flow → Type 0

@@ -1,8 +1,9 @@
-use Rattle.std.proofs.Common.{◌≡◌, ap, subst, sym, Some}
+use Rattle.std.proofs.Common.{◌≡◌, ap, subst, sym, Some, map}
 use Rattle.wasm_syntax.specs.declared.module.ModuleParts.{ModuleParts as Module}
 use Rattle.wasm_syntax.specs.Valid.{body_of}
 use Rattle.rewrite_bodies.specs.calls.Slots.{Ctx}
 use Rattle.rewrite_bodies.specs.calls.Landings.{landings_from}
+use Rattle.rewrite_code.specs.calls.KeptDerivations.{derivation}
 use Rattle.unwind_rewrite.specs.calls.Bodies.{LowLandings}
 use Rattle.unwind_rewrite.specs.calls.Points.{CanBeWritten}
 use Rattle.unwind_rewrite.proofs.Premises as premises
@@ -33,8 +34,9 @@ write_body-requires-clause-tree c =
     let here = subst (λ (x : Module). body_of x f ≡ Some b) c.source-parts.ensures c.body_at-body.ensures in
     let os = c.in_ok-guarded.guarded in
     let xs = c.in_ok-found.found in
-    let is = premises.planned_context m f plan os xs c.new-context.ensures c.in_ok-locals.ensures c.types.ensures.types c.heights-heights.ensures c.gives-result.ensures c.source-parts.ensures in
-    subst (λ (x : Ctx). CanBeWritten x b) (sym is) (premises.can m c.requires.accepted f b here plan c.requires.plan os xs)
+    let ds = map derivation c.in_ok-derived.derived in
+    let is = premises.planned_context m f plan os xs ds c.new-context.ensures c.in_ok-locals.ensures c.types.ensures.types c.heights-heights.ensures c.gives-result.ensures c.source-parts.ensures in
+    subst (λ (x : Ctx). CanBeWritten x b) (sym is) (premises.can m c.requires.accepted f b here plan c.requires.plan os xs ds)
 
 pub write_body-requires-clause-low : goal.write_body-requires-clause-low
 write_body-requires-clause-low c =
@@ -45,9 +47,10 @@ write_body-requires-clause-low c =
     let here = subst (λ (x : Module). body_of x f ≡ Some b) c.source-parts.ensures c.body_at-body.ensures in
     let os = c.in_ok-guarded.guarded in
     let xs = c.in_ok-found.found in
-    let is = premises.planned_context m f plan os xs c.new-context.ensures c.in_ok-locals.ensures c.types.ensures.types c.heights-heights.ensures c.gives-result.ensures c.source-parts.ensures in
+    let ds = map derivation c.in_ok-derived.derived in
+    let is = premises.planned_context m f plan os xs ds c.new-context.ensures c.in_ok-locals.ensures c.types.ensures.types c.heights-heights.ensures c.gives-result.ensures c.source-parts.ensures in
     let own = premises.own_landings m f plan b os xs c.types-2.ensures.types c.source-parts.ensures c.as_slice-2.ensures c.in_ok-found.ensures in
-    subst LowLandings (sym is) (premises.low m c.requires.accepted f b here plan c.requires.plan os xs own)
+    subst LowLandings (sym is) (premises.low m c.requires.accepted f b here plan c.requires.plan os xs ds own)
 
 pub returns-clause-code : goal.returns-clause-code
 returns-clause-code c =
@@ -58,10 +61,12 @@ returns-clause-code c =
     let here = subst (λ (x : Module). body_of x f ≡ Some b) c.source-parts.ensures c.body_at-body.ensures in
     let os = c.in_ok-guarded.guarded in
     let xs = c.in_ok-found.found in
-    let is = premises.planned_context m f plan os xs c.new-context.ensures c.in_ok-locals.ensures c.types.ensures.types c.heights-heights.ensures c.gives-result.ensures c.source-parts.ensures in
+    let ds = map derivation c.in_ok-derived.derived in
+    let is = premises.planned_context m f plan os xs ds c.new-context.ensures c.in_ok-locals.ensures c.types.ensures.types c.heights-heights.ensures c.gives-result.ensures c.source-parts.ensures in
     let own = premises.own_landings m f plan b os xs c.types-2.ensures.types c.source-parts.ensures c.as_slice-2.ensures c.in_ok-found.ensures in
     let shown = premises.own_exposed m b os c.source-parts.ensures c.as_slice.ensures c.in_ok-guarded.ensures in
-    premises.is_rewritten m f b here plan c.requires.plan os xs shown own c.new-context.result is c.write_body.result c.write_body.ensures.code
+    let derived = premises.own_derivations m f plan b os ds c.types-3.ensures.types c.source-parts.ensures c.as_slice-3.ensures c.in_ok-derived.ensures in
+    premises.is_rewritten m f b here plan c.requires.plan os xs ds shown own derived c.new-context.result is c.write_body.result c.write_body.ensures.code
 
 pub returns-clause-promised : goal.returns-clause-promised
 returns-clause-promised c = λ a i old e there. premises.promised c.args.numbers.now c.args.func c.write_body.result (returns-clause-code c) a i old e there
@@ -77,3 +82,6 @@ returns-in_err-found-clause-unwinds c = λ a heights are depth. unwinds (program
 
 pub returns-in_err-guarded-clause-unwinds : goal.returns-in_err-guarded-clause-unwinds
 returns-in_err-guarded-clause-unwinds c = λ a heights are depth. unwinds (program_in c.args.numbers.now a) (module_given c.args.numbers.now a.premises) heights are depth
+
+pub returns-in_err-derived-clause-unwinds : goal.returns-in_err-derived-clause-unwinds
+returns-in_err-derived-clause-unwinds c = λ a heights are depth. unwinds (program_in c.args.numbers.now a) (module_given c.args.numbers.now a.premises) heights are depth

@@ -4,4 +4,4 @@ use Rattle.unwind_rewrite.proofs.exits.exit.Goals as goal
 
 pub returns : goal.returns
 returns c =
-    when_ok (exited c.args.context.now c.gives.result c.gives.ensures c.in_ok-hand_locals.ensures c.in_ok-end_frame.ensures c.in_ok-raise_flag.ensures c.in_ok-zero_result.ensures) c.return_values.result c.return_values.ensures
+    when_ok (exited c.args.context.now c.gives.result c.gives.ensures c.in_ok-work_out_all.ensures c.in_ok-hand_locals.ensures c.in_ok-end_frame.ensures c.in_ok-raise_flag.ensures c.in_ok-zero_result.ensures) c.return_values.result c.return_values.ensures

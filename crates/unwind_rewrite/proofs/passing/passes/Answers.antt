@@ -1,13 +1,9 @@
-use Rattle.std.proofs.Common.{◌≤◌, subst, sym, drop, suc, length, rules, arith}
-use Rattle.wasm_syntax.specs.Tree.{code_of}
-use Rattle.operand_spill.specs.calls.Standing.{Passes}
-use Rattle.operand_spill.proofs.Shapes.{begins_read}
-use Rattle.unwind_rewrite.proofs.PointLaws.{passes_nothing}
+use Rattle.std.proofs.Common.{◌≤◌, length, rules}
+use Rattle.unwind_rewrite.proofs.PointLaws.{passes_first, passes_nothing}
 use Rattle.unwind_rewrite.proofs.passing.passes.Goals as goal
 
 pub returns-then-index-ops : goal.returns-then-index-ops
-returns-then-index-ops c = λ targets.
-    subst (λ xs. Passes c.args.context.now xs c.passes_to.result) (sym (begins_read targets c.args.ops.now c.args.index _ (search rules))) (c.passes_to.ensures targets (drop (suc c.args.index) (code_of targets c.args.ops.now)))
+returns-then-index-ops c = λ targets. passes_first c.args.context.now targets c.args.ops.now c.args.index _ c.passes_to.result (search rules) (c.passes_to.ensures targets)
 
 pub returns-else-index-ops : goal.returns-else-index-ops
 returns-else-index-ops c = λ targets. passes_nothing c.args.context.now c.args.index targets c.args.ops.now (search rules)
