@@ -1,11 +1,11 @@
 //! Lists of values with codes, of which each is another one with a value in front.
 
 ghost use Rattle.std.specs.Prelude.{◌≡◌, ◌≤◌, ◌==◌, ◌++◌, ◌+◌, [], ◌∷◌, ℕ, find, length, slice_get, IfOk, OnOk, OnErr};
-ghost use Rattle.std.specs.Prelude.{if◌then◌else◌};
-ghost use Rattle.std.specs.Option.{option_copied};
+ghost use Rattle.std.specs.Prelude.{◌||◌, drop, take, if◌then◌else◌};
+ghost use Rattle.std.specs.Option.{is_some, option_copied};
 ghost use Rattle.dwarf_abbrev.specs.calls.Shared.{list_of};
 ghost use Rattle.dwarf_abbrev.specs.inner.Forks.{found, IsClosed};
-ghost use Rattle.dwarf_abbrev.specs.inner.Linked.{lists, first_of, map_of, FindsBehind, Finds};
+ghost use Rattle.dwarf_abbrev.specs.inner.Linked.{lists, first_of, map_of, rest_of, Follows, FindsBehind, Finds};
 
 use crate::forks::{Fork, found, with};
 use crate::table::Coded;
@@ -22,7 +22,8 @@ pub struct Link<T: Drop> {
     /// The list behind the value.
     pub rest: u32,
     /// The map from codes to the numbers of the lists that begin with their first values, as it is
-    /// for all codes but that of the value in front.
+    /// for all codes but those of the first eight values, which are looked at one by one. So values
+    /// of a few codes in turn take no nodes.
     pub map: u32,
 }
 
@@ -74,13 +75,74 @@ fn map_of<T: Coded>(links: &[Link<T>], number: u32) -> u32
     }
 }
 
-/// A map, in which the value of a code is that of the list of a number, if it is another code than
-/// one in front of it. So values of one code in a row take no nodes.
+/// The number of the list that the one of a number names behind its first value.
+#[tactic(auto, using(crate::proofs::LinkLaws::rest_at))]
+fn rest_of<T: Coded>(links: &[Link<T>], number: u32) -> u32
+    ensures { result ≡ rest_of links.now number }
+{
+    if number == 0 {
+        return 0;
+    }
+    match links.get(number as usize - 1) {
+        Some(link) => link.rest,
+        None => 0,
+    }
+}
+
+/// The list behind the first value of that of a number.
+fn behind_first<T: Coded>(links: &[Link<T>], list: u32) -> u32
+    requires follows { Follows links.now }
+    ensures list { list_of (lists links.now) result ≡ drop 1 (list_of (lists links.now) list) }
+    ensures there { result ≤ length links.now }
+{
+    rest_of(links, list)
+}
+
+/// The list behind so many values of that of a number.
+fn passed<T: Coded>(links: &[Link<T>], count: u32, list: u32) -> u32
+    requires follows { Follows links.now }
+    requires there { list ≤ length links.now }
+    ensures list { list_of (lists links.now) result
+        ≡ drop count (list_of (lists links.now) list) }
+    ensures there { result ≤ length links.now }
+{
+    if count == 0 {
+        return list;
+    }
+    passed(links, count - 1, behind_first(links, list))
+}
+
+/// The first value of a code among so many of the list of a number.
+fn find_near<'s, T: Coded>(links: &'s [Link<T>], count: u32, list: u32, code: u64) -> Option<&'s T>
+    requires follows { Follows links.now }
+    ensures { option_copied result
+        ≡ find (λ item. T.code item == code) (take count (list_of (lists links.now) list)) }
+{
+    if count == 0 {
+        return None;
+    }
+    let front = first_of(links, list)?;
+    if front.code() == code {
+        return Some(front);
+    }
+    find_near(links, count - 1, behind_first(links, list), code)
+}
+
+/// Whether a code is one in front of a list, or that of one of its first seven values.
+fn is_near<T: Coded>(links: &[Link<T>], front: u64, list: u32, code: u64) -> bool
+    requires follows { Follows links.now }
+    ensures { result ≡ (code == front
+        || is_some (find (λ item. T.code item == code) (take 7 (list_of (lists links.now) list)))) }
+{
+    code == front || find_near(links, 7, list, code).is_some()
+}
+
+/// A map, in which the value of a code is that of the list of a number, if the code is not near.
 fn with_other(
     forks: &mut Items<Fork>,
     before: u32,
+    is_near: bool,
     other: u64,
-    code: u64,
     rest: u32,
 ) -> Result<u32, NoMemory>
     requires closed { IsClosed forks.old }
@@ -91,10 +153,10 @@ fn with_other(
         → found forks.new fuel n k ≡ found forks.old fuel n k }
     ensures number { IfOk result (λ made. made ≤ length forks.new) }
     ensures value { IfOk result (λ made. (fuel k : ℕ) → k ≤ fuel
-        → found forks.new fuel made k ≡ (if other == code then found forks.old fuel before k
+        → found forks.new fuel made k ≡ (if is_near then found forks.old fuel before k
         else (if other == k then rest else found forks.old fuel before k))) }
 {
-    if other == code {
+    if is_near {
         return Ok(before);
     }
     with(forks, before, other, rest)
@@ -117,8 +179,13 @@ fn map_behind<T: Coded>(
     ensures value { IfOk result (λ made. FindsBehind T.code links.now forks.new made rest code) }
 {
     let before = map_of(links, rest);
-    match first_of(links, rest) {
-        Some(front) => with_other(forks, before, front.code(), code, rest),
+    let last = passed(links, 7, rest);
+    match first_of(links, last) {
+        Some(value) => {
+            let other = value.code();
+            let near = is_near(links, code, rest, other);
+            with_other(forks, before, near, other, last)
+        }
         None => Ok(before),
     }
 }
@@ -166,11 +233,10 @@ fn find_in<'s, T: Coded>(
     requires { Finds T.code links.now forks.now }
     ensures { option_copied result ≡ find (λ item. T.code item == code) (list_of (lists links.now) list) }
 {
-    let front = first_of(links, list)?;
-    if front.code() == code {
-        return Some(front);
+    match find_near(links, 8, list, code) {
+        Some(near) => Some(near),
+        None => mapped(links, forks, list, code),
     }
-    mapped(links, forks, list, code)
 }
 
 impl<T: Coded> SharedLists<T> {

@@ -1,7 +1,6 @@
 -- The attributes of an entry, put together of its abbreviation and of its own values.
 use Rattle.std.proofs.Common.{◌≡◌, ℕ, zero, suc, ◌+◌, ◌<◌, ◌≤◌, ◌⊎◌, Bool, true, false, cond, List, [], ◌∷◌, ◌++◌, length, map, drop, Option, Some, None, refl, sym, ap, subst, ◌∙◌, inl, inr, arith}
-use Rattle.std.specs.Prelude.{◌==◌, ◌&&◌, ℤ, slice_get, option_and_then, unwrap_or, Ok, Err}
-use Rattle.std.specs.List.{list_all}
+use Rattle.std.specs.Prelude.{◌==◌, ℤ, slice_get, option_and_then, unwrap_or, Ok, Err}
 use Rattle.std.specs.Option.{is_none}
 use Rattle.std.proofs.lemmas.Option.{slice_get_cases}
 use Rattle.wasm_bytes.specs.declared.faults.ItemFault.{ItemFault}
@@ -20,7 +19,7 @@ use Rattle.dwarf_info.specs.declared.entry.AttrValue.TheVariants.{Flag, Signed}
 use Rattle.dwarf_info.specs.declared.entry.Attribute.{Attribute}
 use Rattle.dwarf_info.specs.Attributes.{attribute}
 use Rattle.dwarf_info.specs.Values.{Context, plain_item, attribute_of, slot_item, attributes_item}
-use Rattle.dwarf_info.specs.inner.Settling.{settled_by, attribute_by, is_met, are_met}
+use Rattle.dwarf_info.specs.inner.Settling.{settled_by, attribute_by}
 use Rattle.dwarf_info.specs.inner.Joined.{fixed, takes_bytes, own_slots, joined_one, joined, held, counted, placed_in, value_at, AreOwn}
 use Rattle.dwarf_info.specs.inner.Reading.{slot_value, own_item}
 
@@ -31,16 +30,15 @@ pub record IsFixed (f : Option Form) (v : AttrValue) : Type 0 where
   pub is : fixed f ≡ Some v
   pub held_is : (all : List AttrValue) (k : ℕ) → value_at all (held f k) ≡ Some v
   pub settles : (m : ℕ → Bool) → settled_by m v ≡ v
-  pub meets : (m : ℕ → Bool) → is_met m v ≡ true
   pub reads : (c : Context) (s : Slot) (p : Place) → s.form ≡ f → slot_item c s p ≡ Ok (attribute_of s v, p)
 
 present : IsFixed (Some form.Present) (Flag true)
 unfolding slot_item plain_item
-present = record { is = refl; held_is = λ all k. refl; settles = λ m. refl; meets = λ m. refl; reads = λ c s p is. rw is refl }
+present = record { is = refl; held_is = λ all k. refl; settles = λ m. refl; reads = λ c s p is. rw is refl }
 
 implicit : (z : ℤ) → IsFixed (Some (form.Implicit z)) (Signed z)
 unfolding slot_item plain_item
-implicit z = record { is = refl; held_is = λ all k. refl; settles = λ m. refl; meets = λ m. refl; reads = λ c s p is. rw is refl }
+implicit z = record { is = refl; held_is = λ all k. refl; settles = λ m. refl; reads = λ c s p is. rw is refl }
 
 abbrev TakesBytes : Option Form → Type 0
 TakesBytes f = (fixed f ≡ None) × ((k : ℕ) → held f k ≡ place.Own k)
@@ -169,24 +167,6 @@ module _ (m : ℕ → Bool) where
     | inr f ↦
         ap (λ (o : Option AttrValue). map (attribute_by m) (joined_one s o (joined slots) own)) f.0 ∙ settled_one s slots own (joined_settled slots)
         ∙ ap (λ (o : Option AttrValue). joined_one s o (joined slots) (map (settled_by m) own)) (sym f.0)
-  ]
-
-  met_one : (s : Slot) (slots : List Slot) (own : List AttrValue) → length own ≡ length (own_slots slots) + 1 → ((vs : List AttrValue) → AreOwn slots vs → list_all (is_met m) vs ≡ are_met m (joined slots vs))
-      → list_all (is_met m) own ≡ are_met m (joined_one s None (joined slots) own)
-  met_one s slots [] size rest = absurd (omega (arith, size))
-  met_one s slots (v ∷ vs) size rest = ap (λ (b : Bool). is_met m v && b) (rest vs (omega (arith, size)))
-
-  pub joined_met : (slots : List Slot) (own : List AttrValue) → AreOwn slots own → list_all (is_met m) own ≡ are_met m (joined slots own)
-  joined_met [] [] are = refl
-  joined_met [] (v ∷ own) are = absurd (omega (arith, are))
-  joined_met (s ∷ slots) own are = elim (form_case s.form) [
-    | inl f ↦
-        joined_met slots own (omega (arith, are, ap length (own_by s slots (Some f.0) f.1.is)))
-        ∙ ap (λ (b : Bool). b && are_met m (joined slots own)) (sym (f.1.meets m))
-        ∙ ap (λ (o : Option AttrValue). are_met m (joined_one s o (joined slots) own)) (sym f.1.is)
-    | inr f ↦
-        met_one s slots own (omega (arith, are, ap length (own_by s slots None f.0))) (joined_met slots)
-        ∙ ap (λ (o : Option AttrValue). are_met m (joined_one s o (joined slots) own)) (sym f.0)
   ]
 
 -- ---- reading

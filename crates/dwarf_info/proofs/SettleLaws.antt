@@ -1,8 +1,8 @@
 -- References are settled by the test whether an entry stands at an offset.
-use Rattle.std.proofs.Common.{◌≡◌, ℕ, Bool, true, false, List, [], ◌∷◌, ◌++◌, Option, refl, ap, ◌∙◌}
-use Rattle.std.specs.Prelude.{◌||◌, ◌==◌, map, flat_map, if◌then◌else◌}
-use Rattle.std.specs.List.{list_any, list_all}
-use Rattle.std.proofs.lemmas.Bool.{and_parts}
+use Rattle.std.proofs.Common.{◌≡◌, ℕ, zero, suc, ◌+◌, ◌<◌, ◌≤◌, Bool, true, false, List, [], ◌∷◌, ◌++◌, length, Option, refl, sym, ap, ap₂, ◌∙◌, arith, append-nil}
+use Rattle.std.specs.Prelude.{◌||◌, ◌==◌, get_or, slice_set, take, drop, map, flat_map, if◌then◌else◌}
+use Rattle.std.specs.List.{list_any}
+use Rattle.std.proofs.lemmas.List.{take_all, drop_all, length-map}
 use Rattle.dwarf_info.specs.declared.entry.AttrValue.{AttrValue}
 use Rattle.dwarf_info.specs.declared.entry.AttrValue.TheVariants.{Address, Constant, Signed, Block, Text, Flag, Reference, Offset, Other}
 use Rattle.dwarf_info.specs.declared.entry.Attribute.{Attribute}
@@ -11,7 +11,7 @@ use Rattle.dwarf_info.specs.declared.entry.UnitAnswer.{UnitAnswer}
 use Rattle.dwarf_info.specs.declared.entry.UnitAnswer.TheVariants.{Tree, Unreadable}
 use Rattle.dwarf_info.specs.declared.places.EntryPlace.{EntryPlace}
 use Rattle.dwarf_info.specs.Units.{entries_in, offsets_of, settled_value, settled_entry, settled_answer, settled}
-use Rattle.dwarf_info.specs.inner.Settling.{meets, settled_by, attribute_by, entry_by, answer_by, is_met, are_met, all_met, any_at}
+use Rattle.dwarf_info.specs.inner.Settling.{meets, settled_by, attribute_by, entry_by, answer_by, is_met, any_at}
 
 -- ---- entries at an offset
 
@@ -53,13 +53,7 @@ answer_settled m offsets h (Unreadable section at) = refl
 
 -- ---- what stays as it is
 
-map_stays : {A : Type 0} (test : A → Bool) (f : A → A) → ((x : A) → test x ≡ true → f x ≡ x) → (xs : List A) → list_all test xs ≡ true → map f xs ≡ xs
-map_stays test f h [] all = refl
-map_stays test f h (x ∷ xs) all =
-    let parts = and_parts (test x) (list_all test xs) all in
-    ap (λ y. y ∷ map f xs) (h x parts.0) ∙ ap (λ ys. x ∷ ys) (map_stays test f h xs parts.1)
-
-value_stays : (m : ℕ → Bool) (v : AttrValue) → is_met m v ≡ true → settled_by m v ≡ v
+pub value_stays : (m : ℕ → Bool) (v : AttrValue) → is_met m v ≡ true → settled_by m v ≡ v
 value_stays m (Address n) met = refl
 value_stays m (Constant n) met = refl
 value_stays m (Signed z) met = refl
@@ -70,20 +64,45 @@ value_stays m (Reference at) met = ap (λ (b : Bool). if b then Reference at els
 value_stays m (Offset at) met = refl
 value_stays m Other met = refl
 
-attribute_stays : (m : ℕ → Bool) (a : Attribute) → is_met m a.value ≡ true → attribute_by m a ≡ a
-attribute_stays m a met = ap (λ (v : AttrValue). let b : Attribute = record { name = a.name; value = v } in b) (value_stays m a.value met)
+-- what does not stay is a reference
+pub value_goes : (m : ℕ → Bool) (v : AttrValue) → is_met m v ≡ false → Other ≡ settled_by m v
+value_goes m (Address n) lost = absurd (let no : true ≡ false = lost in cc)
+value_goes m (Constant n) lost = absurd (let no : true ≡ false = lost in cc)
+value_goes m (Signed z) lost = absurd (let no : true ≡ false = lost in cc)
+value_goes m (Block bytes) lost = absurd (let no : true ≡ false = lost in cc)
+value_goes m (Text bytes) lost = absurd (let no : true ≡ false = lost in cc)
+value_goes m (Flag b) lost = absurd (let no : true ≡ false = lost in cc)
+value_goes m (Reference at) lost = ap (λ (b : Bool). if b then Reference at else Other) (sym lost)
+value_goes m (Offset at) lost = absurd (let no : true ≡ false = lost in cc)
+value_goes m Other lost = absurd (let no : true ≡ false = lost in cc)
 
-pub values_stay : (m : ℕ → Bool) (values : List AttrValue) → list_all (is_met m) values ≡ true → map (settled_by m) values ≡ values
-values_stay m values met = map_stays (is_met m) (settled_by m) (value_stays m) values met
+-- ---- lists that are settled from the front on
 
-attributes_stay : (m : ℕ → Bool) (attributes : List Attribute) → are_met m attributes ≡ true → map (attribute_by m) attributes ≡ attributes
-attributes_stay m attributes met = map_stays (λ a. is_met m a.value) (attribute_by m) (attribute_stays m) attributes met
+-- one more at the front is
+one_more : {A : Type 0} (f : A → A) (i : ℕ) (e : A) (now xs : List A) (d : A) → i < length xs → now ≡ take i (map f xs) ++ drop i xs → e ≡ f (get_or now i d) → slice_set now i e ≡ take (suc i) (map f xs) ++ drop (suc i) xs
+one_more f i e now [] d lt s is = absurd (omega (arith, lt))
+one_more f zero e [] (x ∷ xs) d lt s is = absurd (cc)
+one_more f (suc i) e [] (x ∷ xs) d lt s is = absurd (cc)
+one_more f zero e (y ∷ ys) (x ∷ xs) d lt s is =
+    let first : y ≡ x = cc in
+    let rest : ys ≡ xs = cc in
+    ap₂ (λ a z. a ∷ z) (is ∙ ap f first) rest
+one_more f (suc i) e (y ∷ ys) (x ∷ xs) d lt s is =
+    let first : y ≡ f x = cc in
+    let rest : ys ≡ take i (map f xs) ++ drop i xs = cc in
+    ap₂ (λ a z. a ∷ z) first (one_more f i e ys xs d (omega (arith, lt)) rest is)
 
-entry_stays : (m : ℕ → Bool) (e : Entry) → are_met m e.attributes ≡ true → entry_by m e ≡ e
-entry_stays m e met = ap (λ (vs : List Attribute). let x : Entry = record e { attributes = vs } in x) (attributes_stay m e.attributes met)
+pub settled_more : {A : Type 0} (f : A → A) (xs now : List A) (i : ℕ) (e d : A) → i < length xs → now ≡ take i (map f xs) ++ drop i xs → e ≡ f (get_or now i d) → slice_set now i e ≡ take (i + 1) (map f xs) ++ drop (i + 1) xs
+settled_more f xs now i e d lt s is =
+    let next : suc i ≡ i + 1 = omega arith in
+    one_more f i e now xs d lt s is ∙ ap (λ k. take k (map f xs) ++ drop k xs) next
 
-pub entries_stay : (m : ℕ → Bool) (entries : List Entry) → all_met m entries ≡ true → map (entry_by m) entries ≡ entries
-entries_stay m entries met = map_stays (λ e. are_met m e.attributes) (entry_by m) (entry_stays m) entries met
+-- all are
+pub settled_whole : {A : Type 0} (f : A → A) (i : ℕ) (xs : List A) → i ≡ length xs → take i (map f xs) ++ drop i xs ≡ map f xs
+settled_whole f i xs e =
+    let few : length (map f xs) ≤ i = omega (arith, length-map xs f, e) in
+    let none : length xs ≤ i = omega (arith, e) in
+    ap₂ (λ a b. a ++ b) (take_all i (map f xs) few) (drop_all i xs none) ∙ append-nil (map f xs)
 
 -- ---- all units
 

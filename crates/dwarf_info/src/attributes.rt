@@ -1,15 +1,14 @@
 //! The attributes of an entry.
 
 ghost use Rattle.std.specs.Prelude.{◌≡◌, map, slice_get, IfOk};
-ghost use Rattle.std.specs.List.{list_all};
 ghost use Rattle.dwarf_abbrev.specs.calls.Shared.{list_of};
 ghost use Rattle.dwarf_info.specs.Attributes.{attribute};
 ghost use Rattle.dwarf_info.specs.inner.Joined.{joined, value_at, AreOwn};
-ghost use Rattle.dwarf_info.specs.inner.Settling.{placed, meets, settled_by, attribute_by, is_met, are_met};
+ghost use Rattle.dwarf_info.specs.inner.Settling.{placed, meets, settled_by, attribute_by};
 
 use crate::entry::{AttrValue, Attribute};
 use crate::places::Places;
-use crate::settle::{is_met, settled_value};
+use crate::settle::settle_value;
 use crate::slots::{SlotLists, SlotPlace, Slots, counted, held};
 use causes::NoMemory;
 use pm_text::Items;
@@ -23,7 +22,7 @@ use wasm_bytes::Run;
 pub struct Attributes<'a> {
     slots: Slots,
     // The value of each attribute that takes bytes, in order.
-    own: Items<AttrValue<'a>>,
+    own: Vec<AttrValue<'a>>,
 }
 
 impl<'a> Model for Attributes<'a> {
@@ -33,9 +32,9 @@ impl<'a> Model for Attributes<'a> {
 
     ghost Value = { List Attribute };
 
-    ghost view = { λ a. joined a.slots a.own };
+    ghost view = { λ a. joined a.slots a.own.items };
 
-    ghost invariant = { λ a. AreOwn a.slots a.own };
+    ghost invariant = { λ a. AreOwn a.slots a.own.items };
 }
 
 fn copied<'a>(value: &AttrValue<'a>) -> AttrValue<'a>
@@ -101,30 +100,12 @@ pub fn all_of<'a>(
     Ok(all)
 }
 
-fn all_own_met<'a>(places: &Places, own: &[AttrValue<'a>]) -> bool
-    ensures { result ≡ list_all (is_met (meets (placed places.now))) own.now }
+fn settle_values<'a>(places: &Places, values: &mut [AttrValue<'a>])
+    ensures { values.new ≡ map (settled_by (meets (placed places.now))) values.old }
 {
-    own.iter().all(|value| is_met(places, value))
-}
-
-/// Values, where nothing is left of each reference that meets no entry. Values that all stay as they
-/// are need no memory.
-fn settled_values<'a>(
-    alloc: Global,
-    places: &Places,
-    values: Items<AttrValue<'a>>,
-) -> Result<Items<AttrValue<'a>>, NoMemory>
-    ensures { IfOk result (λ kept. kept ≡ map (settled_by (meets (placed places.now)))
-        values.entry) }
-{
-    if all_own_met(places, values.as_slice()) {
-        return Ok(values);
+    for value in values.iter_mut() {
+        settle_value(places, value);
     }
-    let mut kept = Vec::with_capacity(alloc, values.len())?;
-    for value in values.into_vec() {
-        kept.push(settled_value(places, value))?;
-    }
-    Ok(Items::from_vec(kept))
 }
 
 impl<'a> Attributes<'a> {
@@ -133,7 +114,10 @@ impl<'a> Attributes<'a> {
         requires { AreOwn slots own }
         ensures { result ≡ joined slots own.entry }
     {
-        Attributes { slots, own }
+        Attributes {
+            slots,
+            own: own.into_vec(),
+        }
     }
 
     /// The value of the first attribute of a name, in logarithmic time.
@@ -155,22 +139,10 @@ impl<'a> Attributes<'a> {
         self.slots.all(alloc, self.own.as_slice())
     }
 
-    /// Each is no reference, or one that meets an entry.
-    pub(crate) fn are_met(&self, places: &Places) -> bool
-        ensures { result ≡ are_met (meets (placed places.now)) self.now }
+    /// Nothing is left of each reference that meets no entry. It takes no memory.
+    pub(crate) fn settle(&mut self, places: &Places)
+        ensures { self.new ≡ map (attribute_by (meets (placed places.now))) self.old }
     {
-        all_own_met(places, self.own.as_slice())
-    }
-
-    /// Nothing is left of each reference that meets no entry.
-    pub(crate) fn settled(self, alloc: Global, places: &Places) -> Result<Self, NoMemory>
-        ensures { IfOk result (λ kept. kept
-            ≡ map (attribute_by (meets (placed places.now))) self.entry) }
-    {
-        let own = settled_values(alloc, places, self.own)?;
-        Ok(Attributes {
-            slots: self.slots,
-            own,
-        })
+        settle_values(places, self.own.as_mut_slice());
     }
 }

@@ -2,7 +2,6 @@
 
 ghost use Rattle.std.specs.Prelude.{◌≡◌, map, IfOk};
 ghost use Rattle.dwarf_info.specs.inner.Settling.{placed, meets, settled_by, entry_by, unit_by, answer_by, is_met};
-ghost use Rattle.dwarf_info.specs.inner.Settling.{all_met};
 
 use crate::entry::{AttrValue, Entries, Entry, Unit, UnitAnswer};
 use crate::places::Places;
@@ -20,88 +19,49 @@ pub fn is_met<'a>(places: &Places, value: &AttrValue<'a>) -> bool
     }
 }
 
-fn all_met<'a>(places: &Places, entries: &[Entry<'a>]) -> bool
-    ensures { result ≡ all_met (meets (placed places.now)) entries.now }
-{
-    entries.iter().all(|entry| entry.attributes.are_met(places))
-}
-
 /// A reference that meets no entry refers to nothing.
-pub fn settled_value<'a>(places: &Places, value: AttrValue<'a>) -> AttrValue<'a>
-    ensures { result ≡ settled_by (meets (placed places.now)) value.entry }
+#[tactic(auto, using(crate::proofs::SettleLaws::value_stays, crate::proofs::SettleLaws::value_goes))]
+pub fn settle_value<'a>(places: &Places, value: &mut AttrValue<'a>)
+    ensures { value.new ≡ settled_by (meets (placed places.now)) value.old }
 {
-    match value {
-        AttrValue::Reference(at) => {
-            if places.contains(at) {
-                AttrValue::Reference(at)
-            } else {
-                AttrValue::Other
-            }
-        }
-        value => value,
+    if !is_met(places, value) {
+        *value = AttrValue::Other;
     }
 }
 
-fn settled_entry<'a>(
-    alloc: Global,
-    places: &Places,
-    entry: Entry<'a>,
-) -> Result<Entry<'a>, NoMemory>
-    ensures { IfOk result (λ kept. kept ≡ entry_by (meets (placed places.now)) entry.entry) }
+/// Each entry is settled where it is.
+fn settle_entries<'a>(places: &Places, entries: &mut [Entry<'a>])
+    ensures { entries.new ≡ map (entry_by (meets (placed places.now))) entries.old }
 {
-    let attributes = entry.attributes.settled(alloc, places)?;
-    Ok(Entry {
-        at: entry.at,
-        depth: entry.depth,
-        tag: entry.tag,
-        attributes,
-    })
+    for entry in entries.iter_mut() {
+        entry.attributes.settle(places);
+    }
 }
 
-/// Entries that all stay as they are need no memory.
-#[tactic(auto, using(crate::proofs::SettleLaws::entries_stay))]
-fn settled_entries<'a>(
-    alloc: Global,
-    places: &Places,
-    entries: Entries<'a>,
-) -> Result<Entries<'a>, NoMemory>
-    ensures { IfOk result (λ kept. kept
-        ≡ map (entry_by (meets (placed places.now))) entries.entry) }
+fn settled_entries<'a>(places: &Places, entries: Entries<'a>) -> Entries<'a>
+    ensures { result ≡ map (entry_by (meets (placed places.now))) entries.entry }
 {
-    if all_met(places, entries.as_slice()) {
-        return Ok(entries);
-    }
-    let mut kept = Vec::new(alloc);
-    for entry in entries.into_vec() {
-        kept.push(settled_entry(alloc, places, entry)?)?;
-    }
-    Ok(Items::from_vec(kept))
+    let mut kept = entries.into_vec();
+    settle_entries(places, kept.as_mut_slice());
+    Items::from_vec(kept)
 }
 
-fn settled_unit<'a>(alloc: Global, places: &Places, unit: Unit<'a>) -> Result<Unit<'a>, NoMemory>
-    ensures { IfOk result (λ kept. kept ≡ unit_by (meets (placed places.now)) unit.entry) }
+fn settled_unit<'a>(places: &Places, unit: Unit<'a>) -> Unit<'a>
+    ensures { result ≡ unit_by (meets (placed places.now)) unit.entry }
 {
-    let entries = settled_entries(alloc, places, unit.entries)?;
-    Ok(Unit {
+    Unit {
         at: unit.at,
         version: unit.version,
-        entries,
-    })
+        entries: settled_entries(places, unit.entries),
+    }
 }
 
-fn settled_answer<'a>(
-    alloc: Global,
-    places: &Places,
-    answer: UnitAnswer<'a>,
-) -> Result<UnitAnswer<'a>, NoMemory>
-    ensures { IfOk result (λ kept. kept ≡ answer_by (meets (placed places.now)) answer.entry) }
+fn settled_answer<'a>(places: &Places, answer: UnitAnswer<'a>) -> UnitAnswer<'a>
+    ensures { result ≡ answer_by (meets (placed places.now)) answer.entry }
 {
     match answer {
-        UnitAnswer::Tree(unit) => {
-            let unit = settled_unit(alloc, places, unit)?;
-            Ok(UnitAnswer::Tree(unit))
-        }
-        UnitAnswer::Unreadable { section, at } => Ok(UnitAnswer::Unreadable { section, at }),
+        UnitAnswer::Tree(unit) => UnitAnswer::Tree(settled_unit(places, unit)),
+        UnitAnswer::Unreadable { section, at } => UnitAnswer::Unreadable { section, at },
     }
 }
 
@@ -116,7 +76,7 @@ pub fn settled_answers<'a>(
 {
     let mut kept = Vec::new(alloc);
     for answer in answers.into_vec() {
-        kept.push(settled_answer(alloc, places, answer)?)?;
+        kept.push(settled_answer(places, answer))?;
     }
     Ok(Items::from_vec(kept))
 }

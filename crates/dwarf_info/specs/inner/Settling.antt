@@ -1,6 +1,6 @@
 -- References that meet an entry, by a test of offsets.
 use Rattle.std.specs.Prelude.{ℕ, List, Option, Some, None, Bool, true, map, option_map, find, ◌==◌, if◌then◌else◌}
-use Rattle.std.specs.List.{list_any, list_all}
+use Rattle.std.specs.List.{list_any}
 use Rattle.std.specs.Option.{is_some}
 use Rattle.dwarf_info.specs.declared.places.EntryPlace.{EntryPlace}
 use Rattle.dwarf_info.specs.declared.places.PlacedEntry.{PlacedEntry}
@@ -40,14 +40,8 @@ is_met meets v = true
 abbrev pub attribute_by : (ℕ → Bool) → Attribute → Attribute
 attribute_by meets a = record { name = a.name; value = settled_by meets a.value }
 
-abbrev pub are_met : (ℕ → Bool) → List Attribute → Bool
-are_met meets attributes = list_all (λ a. is_met meets a.value) attributes
-
 abbrev pub entry_by : (ℕ → Bool) → Entry → Entry
 entry_by meets e = record e { attributes = map (attribute_by meets) e.attributes }
-
-abbrev pub all_met : (ℕ → Bool) → List Entry → Bool
-all_met meets entries = list_all (λ e. are_met meets e.attributes) entries
 
 abbrev pub unit_by : (ℕ → Bool) → UnitTree → UnitTree
 unit_by meets u = record u { entries = map (entry_by meets) u.entries }

@@ -13,7 +13,7 @@ returns-clause-finds g c =
     let l : Link g.row.T.Denot = record { value = c.args.value; rest = c.args.rest; map = c.in_ok-map.map } in
     let coded : FindsBehind code c.as_slice.result.now after l.map l.rest (code l.value) = subst (λ (n : ℕ). FindsBehind code c.as_slice.result.now after l.map l.rest n) c.code.ensures c.in_ok-map.ensures.value in
     let behind : FindsBehind code links after l.map l.rest (code l.value) = subst (λ (ls : List (Link g.row.T.Denot)). FindsBehind code ls after l.map l.rest (code l.value)) c.as_slice.ensures coded in
-    finds_link code links c.push.new.self before after l c.requires.finds c.in_ok-map.ensures.closed c.in_ok-map.ensures.grows c.in_ok-map.ensures.same c.in_ok-map.ensures.number behind c.in_ok-push.ensures.ok
+    finds_link code links c.push.new.self before after l c.requires.finds c.in_ok-map.ensures.closed c.in_ok-map.ensures.grows c.in_ok-map.ensures.same c.in_ok-map.ensures.number (omega (arith, c.requires.rest, lists_length links)) behind c.in_ok-push.ensures.ok
 
 pub returns-clause-number : goal.returns-clause-number
 returns-clause-number g c = omega (arith, c.len-len.ensures, lists_length c.args.links.now)
