@@ -61,7 +61,7 @@ fits es counts i other k count lt all is =
     let most : deeper (get_or es i other).depth (drop (i + 1) es) ≤ length (drop (i + 1) es) = prefix_len-le-length _ (drop (i + 1) es) in
     omega (arith, lt, counted, most, length-drop (i + 1) es)
 
-first_is : (es : List Entry) (i : ℕ) (e other : Entry) → i < length es → e ≡ get_or es i other → drop i es ≡ e ∷ drop (i + 1) es
+pub first_is : (es : List Entry) (i : ℕ) (e other : Entry) → i < length es → e ≡ get_or es i other → drop i es ≡ e ∷ drop (i + 1) es
 first_is es i e other lt is = rw (drop-cons es i other lt, ← is, add-one) refl
 
 -- one more that is deeper, with all in it

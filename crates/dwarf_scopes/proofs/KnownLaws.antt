@@ -5,7 +5,7 @@ use Rattle.std.specs.Ordering.{nat_cmp, is_eq}
 use Rattle.std.specs.BTreeMap.{get, is_at}
 use Rattle.std.specs.Map.{lookup}
 use Rattle.wasm_bytes.specs.Place.{Place, Read}
-use Rattle.dwarf_bytes.specs.Items.{ended_from, ended_item, reading_of, read_at}
+use Rattle.dwarf_bytes.specs.Items.{ended_from, ended_item, reading_of}
 use Rattle.dwarf_info.proofs.RowLaws.{first_read, end_read, none_read, place_is}
 use Rattle.dwarf_loc.specs.declared.entry.ListEntry.{ListEntry}
 use Rattle.dwarf_loc.specs.declared.said.Said.{Said as SaidOf}
@@ -20,10 +20,10 @@ use Rattle.dwarf_scopes.specs.calls.Knowing.{Sectioned, Entered, said_in, IsSaid
 use Rattle.dwarf_scopes.specs.inner.Passing.{IsEntry, place_behind, Leads}
 
 -- fewer bytes are left behind an entry
-room_behind : (len at next n : ℕ) → at ≤ len → at < next → len + 1 - at ≤ suc n → len + 1 - next ≤ n
+pub room_behind : (len at next n : ℕ) → at ≤ len → at < next → len + 1 - at ≤ suc n → len + 1 - next ≤ n
 room_behind len at next n inside moves room = omega (arith, inside, moves, room)
 
-no_room : (len at : ℕ) → at ≤ len → len + 1 - at ≤ 0 → ⊥
+pub no_room : (len at : ℕ) → at ≤ len → len + 1 - at ≤ 0 → ⊥
 no_room len at inside room = omega (arith, inside, room)
 
 pub is_entry : {A : Type 0} (section : List ℕ) (item : Place → Read (Option (ListEntry A))) (p q : Place) (e : ListEntry A) → p.block ≡ section → q.block ≡ section → p.at ≤ length section → p.at < q.at

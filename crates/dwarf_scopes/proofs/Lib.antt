@@ -4,6 +4,8 @@ pub mod StepLaws
 pub mod NumberLaws
 pub mod HolderLaws
 pub mod KnownLaws
+pub mod BaseLaws
 pub mod AskedLaws
 pub mod TableLaws
+pub mod LevelLaws
 pub mod ListedLaws

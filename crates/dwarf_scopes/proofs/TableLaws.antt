@@ -91,3 +91,8 @@ got f (p ∷ ps) (x ∷ xs) (suc i) e = got f ps xs i (tails (f p) (Some x) (map
 
 pub got_kept : (units : List UnitAnswer) (places : List EntryPlace) (i : ℕ) → places ≡ places_from 0 units → option_and_then (placed units) (slice_get places i) ≡ slice_get (kept units) i
 got_kept units places i is = ap (λ (ps : List EntryPlace). option_and_then (placed units) (slice_get ps i)) is ∙ got (placed units) (places_from 0 units) (kept units) i (all_at units)
+
+pub got_number : (units : List UnitAnswer) (places : List EntryPlace) (o : Option ℕ) → places ≡ places_from 0 units
+    → option_and_then (placed units) (option_and_then (slice_get places) o) ≡ option_and_then (slice_get (kept units)) o
+got_number units places (Some i) is = got_kept units places i is
+got_number units places None is = refl

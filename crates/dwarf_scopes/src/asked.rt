@@ -6,15 +6,21 @@ ghost use Rattle.dwarf_scopes.specs.Lists.{location_in as entry_in};
 ghost use Rattle.dwarf_scopes.specs.Ranges as ranges;
 ghost use Rattle.dwarf_scopes.specs.calls.Knowing.{AreRight, AreFound, held_in};
 
+use crate::bases::{BaseTables, held_by_bases};
 use crate::kinds::{LocationLists, RangeLists};
-use crate::known::{KnownLists, chosen_in};
+use crate::known::{KnownLists, chosen_in, place_of};
 use causes::NoMemory;
 use dwarf_info::{Sections5, Unit};
 use dwarf_loc::Span;
 use std::alloc::Global;
 
 /// What range lists say.
-pub type KnownRanges = KnownLists<()>;
+#[derive(Drop)]
+pub struct KnownRanges {
+    pub lists: KnownLists<()>,
+    /// Lists that were asked from several bases.
+    pub bases: BaseTables,
+}
 
 /// What location lists say.
 pub type KnownLocations = KnownLists<Span>;
@@ -23,7 +29,10 @@ pub type KnownLocations = KnownLists<Span>;
 pub fn no_ranges(alloc: Global) -> KnownRanges
     ensures { (s : SectionBytes5) (address : ℕ) → AreRight s address result }
 {
-    KnownLists::new(alloc)
+    KnownRanges {
+        lists: KnownLists::new(alloc),
+        bases: BaseTables::new(alloc),
+    }
 }
 
 /// No location list was asked yet.
@@ -56,7 +65,12 @@ fn in_list(
         ≡ ranges.in_list sections.now unit.now address (Some at)) }
     ensures right { AreRight sections.now address lists.new }
 {
-    let chosen = chosen_in::<RangeLists>(sections, unit, address, at, lists)?;
+    let place = place_of(unit, at as usize);
+    let held = held_by_bases::<RangeLists>(sections, address, place, &mut lists.bases)?;
+    if let Some(held) = held {
+        return Ok(held);
+    }
+    let chosen = chosen_in::<RangeLists>(sections, unit, address, at, &mut lists.lists)?;
     Ok(held_in(chosen))
 }
 

@@ -114,6 +114,25 @@ impl Holders {
         Ok(Holders { bounded, listed })
     }
 
+    /// The number of the first of the entries that holds an address.
+    pub fn number(
+        &self,
+        alloc: Global,
+        sections: &Sections5<'_>,
+        entries: &PlacedSubprograms<'_, '_, '_>,
+        address: u32,
+    ) -> Result<Option<usize>, NoMemory>
+        requires { AreHolders entries.now self.now }
+        ensures { IfOk result (λ number. option_and_then (slice_get entries.now) number
+            ≡ find (ranges.holds sections.now address) entries.now) }
+    {
+        let mut lists = no_ranges(alloc);
+        let named = self.bounded.at(address);
+        let listed = self.listed.as_slice();
+        let number = first_or(sections, entries, address, named, listed, &mut lists)?;
+        Ok(number)
+    }
+
     /// The first of the entries that holds an address.
     pub fn first<'r, 'a>(
         &self,
@@ -125,10 +144,7 @@ impl Holders {
         requires { AreHolders entries.now self.now }
         ensures { IfOk result (λ x. x ≡ find (ranges.holds sections.now address) entries.now) }
     {
-        let mut lists = no_ranges(alloc);
-        let named = self.bounded.at(address);
-        let listed = self.listed.as_slice();
-        let number = first_or(sections, entries, address, named, listed, &mut lists)?;
+        let number = self.number(alloc, sections, entries, address)?;
         Ok(entry_of(entries, number))
     }
 }

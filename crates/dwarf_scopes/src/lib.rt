@@ -3,10 +3,12 @@
 #![tactic(auto)]
 
 mod asked;
+mod bases;
 mod holders;
 mod insides;
 mod kinds;
 mod known;
+mod levels;
 mod listed;
 mod lists;
 mod ranges;

@@ -1,13 +1,16 @@
 //! The subprogram at an address, and the scopes and variables that are visible there (DWARF 4
 //! sections 3.3, 3.4 and 4.1).
 
-ghost use Rattle.std.specs.Prelude.{ℕ, ◌≡◌, ◌∷◌, ◌++◌, OnOk, IfOk, filter, reverse};
-ghost use Rattle.dwarf_entries.specs.Standing.{Standing as Stands, standing_in, inside};
+ghost use Rattle.std.specs.Prelude.{ℕ, ◌≡◌, ◌≤◌, ◌∷◌, [], ◌++◌, OnOk, IfOk, false, filter, reverse, length, drop};
+ghost use Rattle.dwarf_entries.specs.Standing.{Standing as Stands, stands, standing_in, entries_inside, inside};
 ghost use Rattle.dwarf_scopes.specs.Scopes as scopes;
 ghost use Rattle.dwarf_scopes.specs.calls.Knowing.{AreRight};
+ghost use Rattle.dwarf_scopes.specs.calls.Levels.{AreLevels};
+ghost use Rattle.dwarf_scopes.specs.inner.Fronts.{StandFrom};
 ghost use Rattle.dwarf_scopes.specs.inner.Picks.{is_scope, is_inlined, is_wanted};
 
 use crate::asked::{KnownRanges, no_ranges};
+use crate::levels::{UnitLevels, entries_from, passed};
 use crate::ranges::holds_by_known;
 use crate::subprograms::subprogram_at;
 use causes::NoMemory;
@@ -186,6 +189,121 @@ pub fn inlined_in<'r, 'a>(
 {
     let scopes = scopes_in(alloc, sections, address, false, subprogram)?;
     inlined_of(alloc, scopes)
+}
+
+/// Appends an entry, behind which these stand, where it is an inlined subroutine that holds the
+/// address.
+fn push_if_inlined<'r, 'a>(
+    pick: &ScopeAt<'_, 'a>,
+    unit: &'r Unit<'a>,
+    entry: &'r Entry<'a>,
+    behind: &'r [Entry<'a>],
+    lists: &mut KnownRanges,
+    found: &mut Items<Standing<'r, 'a>>,
+) -> Result<(), NoMemory>
+    requires right { AreRight pick.now.sections.now pick.now.address lists.old }
+    ensures right { AreRight pick.now.sections.now pick.now.address lists.new }
+    ensures found { OnOk result (found.new ≡ found.old
+        ++ filter (is_wanted false pick.now.sections.now pick.now.address)
+        (stands unit.now entry.now behind.now ∷ [])) }
+{
+    let standing = Standing::new(unit, entry, behind);
+    if is_wanted(pick, false, &standing, lists)? {
+        found.push(standing)?;
+    }
+    Ok(())
+}
+
+/// How many of these entries, which stand in a unit from a number on, are passed over: none of them
+/// is an inlined subroutine that holds the address.
+fn quiet_among(
+    pick: &ScopeAt<'_, '_>,
+    unit: &Unit<'_>,
+    levels: &UnitLevels,
+    at: usize,
+    entries: &[Entry<'_>],
+) -> usize
+    requires levels { AreLevels unit.now.entries levels.now }
+    requires stand { StandFrom at entries.now unit.now.entries }
+    ensures few { result ≤ length entries.now }
+    ensures none { filter (is_wanted false pick.now.sections.now pick.now.address)
+        (standing_in unit.now entries.now)
+        ≡ filter (is_wanted false pick.now.sections.now pick.now.address)
+        (standing_in unit.now (drop result entries.now)) }
+{
+    let quiet = passed(levels, at, pick.address);
+    if quiet < entries.len() {
+        quiet
+    } else {
+        entries.len()
+    }
+}
+
+/// Appends the inlined subroutines that hold the address among these entries, which stand in a unit
+/// from a number on.
+fn push_inlined<'r, 'a>(
+    pick: &ScopeAt<'_, 'a>,
+    unit: &'r Unit<'a>,
+    levels: &UnitLevels,
+    start: usize,
+    entries: &'r [Entry<'a>],
+    lists: &mut KnownRanges,
+    found: &mut Items<Standing<'r, 'a>>,
+) -> Result<(), NoMemory>
+    requires right { AreRight pick.now.sections.now pick.now.address lists.old }
+    requires levels { AreLevels unit.now.entries levels.now }
+    requires stand { StandFrom start entries.now unit.now.entries }
+    ensures { OnOk result (found.new ≡ found.old
+        ++ filter (is_wanted false pick.now.sections.now pick.now.address)
+        (standing_in unit.now entries.now)) }
+{
+    let mut at = start;
+    let mut left = entries;
+    'entries: while let [entry, behind @ ..] = left {
+        let quiet = quiet_among(pick, unit, levels, at, left);
+        if quiet > 0 {
+            left = entries_from(left, quiet);
+            at += quiet;
+        } else {
+            push_if_inlined(pick, unit, entry, behind, lists, found)?;
+            left = behind;
+            at += 1;
+        }
+    }
+    Ok(())
+}
+
+/// The inlined subroutines in a subprogram that hold an address, the innermost first: those among
+/// these entries, which stand in it, from a number on in its unit.
+pub fn inlined_by<'r, 'a>(
+    alloc: Global,
+    sections: &Sections5<'a>,
+    address: u32,
+    subprogram: Standing<'r, 'a>,
+    levels: &UnitLevels,
+    start: usize,
+    entries: &'r [Entry<'a>],
+) -> Result<Items<Standing<'r, 'a>>, NoMemory>
+    requires inside { entries.now ≡ entries_inside subprogram }
+    requires levels { AreLevels subprogram.unit.entries levels.now }
+    requires stand { StandFrom start entries.now subprogram.unit.entries }
+    ensures { IfOk result (λ xs. xs ≡ reverse (filter is_inlined
+        (scopes.scopes_in sections.now address subprogram.entry))) }
+{
+    let unit = subprogram.unit();
+    let mut lists = no_ranges(alloc);
+    let mut found = Items::new(alloc);
+    found.push(subprogram)?;
+    push_inlined(
+        &ScopeAt { sections, address },
+        unit,
+        levels,
+        start,
+        entries,
+        &mut lists,
+        &mut found,
+    )?;
+    inlined_of(alloc, found)
 }
 
 /// The inlined subroutines that hold an address, the innermost first.

@@ -1,15 +1,19 @@
 //! The subprograms of all units: gathered once where many addresses are looked up, and gone through
 //! for a single one.
 
-ghost use Rattle.std.specs.Prelude.{◌≡◌, ◌++◌, OnOk, IfOk, find, flat_map};
+ghost use Rattle.std.specs.Prelude.{◌≡◌, ◌++◌, Some, OnOk, IfOk, find, flat_map, drop, slice_get, unwrap_or};
 ghost use Rattle.dwarf_entries.specs.Standing.{Standing as Stands, standing_in, of_unit};
 ghost use Rattle.dwarf_scopes.specs.Scopes as scopes;
 ghost use Rattle.dwarf_scopes.specs.calls.Knowing.{AreRight};
+ghost use Rattle.dwarf_scopes.specs.calls.Levels.{AreLevels, IsLeveled};
+ghost use Rattle.dwarf_scopes.specs.calls.Tabled.{first_standing, placed_in};
 ghost use Rattle.dwarf_scopes.specs.inner.Picks.{is_kept, kept_of, kept, inlined_from};
 
 use crate::asked::{KnownRanges, no_ranges};
+use crate::levels::UnitLevels;
 use crate::ranges::holds_by_known;
-use crate::scopes::{inlined_in, is_removed};
+use crate::scopes::{inlined_by, inlined_in, is_removed};
+use crate::variables::{entries_behind, first_entries};
 use causes::NoMemory;
 use dwarf_entries::tags::SUBPROGRAM;
 use dwarf_entries::{Pick, Standing, push_picked};
@@ -94,6 +98,84 @@ impl<'r, 'a> Found<'r, 'a> {
                 inlined: Items::new(alloc),
             }),
         }
+    }
+}
+
+/// How many entries stand in the entry of a number.
+fn count_of(levels: &UnitLevels, number: usize) -> usize
+    ensures { result ≡ unwrap_or (slice_get levels.now.counts number) 0 }
+{
+    match levels.counts.get(number) {
+        Some(count) => *count,
+        None => 0,
+    }
+}
+
+/// What stands at an address, by the subprogram there, which has this number in its unit.
+fn found_by_levels<'r, 'a>(
+    alloc: Global,
+    sections: &Sections5<'a>,
+    address: u32,
+    unit: &'r Unit<'a>,
+    number: usize,
+    levels: &UnitLevels,
+) -> Result<Found<'r, 'a>, NoMemory>
+    requires { AreLevels unit.now.entries levels.now }
+    ensures subprogram { IfOk result (λ x. x.subprogram
+        ≡ first_standing unit.now (drop number unit.now.entries)) }
+    ensures inlined { IfOk result (λ x. x.inlined ≡ inlined_from sections.now address
+        (first_standing unit.now (drop number unit.now.entries))) }
+{
+    let entries = unit.entries.as_slice();
+    if number >= entries.len() {
+        return Ok(Found {
+            subprogram: None,
+            inlined: Items::new(alloc),
+        });
+    }
+    let entry = &entries[number];
+    let behind = entries_behind(entries, number);
+    let count = count_of(levels, number);
+    let inside = first_entries(behind, count);
+    let subprogram = Standing::new(unit, entry, behind);
+    let inlined = inlined_by(
+        alloc,
+        sections,
+        address,
+        subprogram.copied(),
+        levels,
+        number + 1,
+        inside,
+    )?;
+    Ok(Found {
+        subprogram: Some(subprogram),
+        inlined,
+    })
+}
+
+/// The same in any unit, of which the levels may be known.
+pub fn found_in_unit<'r, 'a>(
+    alloc: Global,
+    sections: &Sections5<'a>,
+    address: u32,
+    answer: &'r UnitAnswer<'a>,
+    number: usize,
+    levels: &UnitLevels,
+) -> Result<Found<'r, 'a>, NoMemory>
+    requires { IsLeveled answer.now levels.now }
+    ensures subprogram { IfOk result (λ x. x.subprogram
+        ≡ placed_in (Some answer.now) number) }
+    ensures inlined { IfOk result (λ x. x.inlined ≡ inlined_from sections.now address
+        (placed_in (Some answer.now) number)) }
+{
+    match answer {
+        UnitAnswer::Tree(unit) => {
+            found_by_levels(alloc, sections, address, unit, number, levels)
+        }
+        UnitAnswer::Unreadable { section: _, at: _ } => Ok(Found {
+            subprogram: None,
+            inlined: Items::new(alloc),
+        }),
     }
 }
 

@@ -1,14 +1,16 @@
 //! The subprograms of all units by the places where they stand: a table that is kept without a borrow
 //! of the units.
 
-ghost use Rattle.std.specs.Prelude.{◌≡◌, ◌++◌, ◌+◌, ◌<◌, IfOk, OnOk, drop, length, slice_get, option_and_then};
+ghost use Rattle.std.specs.Prelude.{◌≡◌, ◌++◌, ◌+◌, ◌<◌, [], None, IfOk, OnOk, drop, length, slice_get, option_and_then};
 ghost use Rattle.dwarf_scopes.specs.Scopes as scopes;
 ghost use Rattle.dwarf_scopes.specs.calls.Tabled as tabled;
-ghost use Rattle.dwarf_scopes.specs.inner.Picks.{kept};
+ghost use Rattle.dwarf_scopes.specs.calls.Levels.{AreLeveled};
+ghost use Rattle.dwarf_scopes.specs.inner.Picks.{kept, inlined_from};
 ghost use Rattle.dwarf_scopes.specs.inner.Holding.{AreHolders};
 
 use crate::holders::Holders;
-use crate::subprograms::{Found, all_kept, is_kept};
+use crate::levels::{UnitLevels, all_levels};
+use crate::subprograms::{Found, all_kept, found_in_unit, is_kept};
 use causes::NoMemory;
 use dwarf_entries::Standing;
 use dwarf_info::{Sections5, Unit, UnitAnswer};
@@ -143,12 +145,81 @@ fn holders_of(alloc: Global, units: &[UnitAnswer<'_>]) -> Result<Holders, NoMemo
     Holders::of(alloc, kept.as_slice())
 }
 
+fn place_of_number(places: &[EntryPlace], number: Option<usize>) -> Option<EntryPlace>
+    ensures { result ≡ option_and_then (slice_get places.now) number }
+{
+    places.get(number?).copied()
+}
+
+fn nothing_found<'r, 'a>(alloc: Global) -> Found<'r, 'a>
+    ensures subprogram { result.subprogram ≡ None }
+    ensures inlined { result.inlined ≡ [] }
+{
+    Found {
+        subprogram: None,
+        inlined: Items::new(alloc),
+    }
+}
+
+/// What stands at a place.
+#[tactic(auto, using(crate::proofs::LevelLaws::level_at))]
+fn found_there<'r, 'a>(
+    alloc: Global,
+    sections: &Sections5<'a>,
+    units: &'r [UnitAnswer<'a>],
+    address: u32,
+    levels: &[UnitLevels],
+    place: EntryPlace,
+) -> Result<Found<'r, 'a>, NoMemory>
+    requires { AreLeveled levels.now units.now }
+    ensures subprogram { IfOk result (λ x. x.subprogram ≡ tabled.placed units.now place) }
+    ensures inlined { IfOk result (λ x. x.inlined ≡ inlined_from sections.now address
+        (tabled.placed units.now place)) }
+{
+    let Some(answer) = units.get(place.unit) else {
+        return Ok(nothing_found(alloc));
+    };
+    match levels.get(place.unit) {
+        Some(levels) => {
+            let found = found_in_unit(alloc, sections, address, answer, place.entry, levels)?;
+            Ok(found)
+        }
+        None => {
+            let found = Found::of(alloc, sections, address, placed(units, place))?;
+            Ok(found)
+        }
+    }
+}
+
+/// What stands at a place, if there is one.
+fn found_at_place<'r, 'a>(
+    alloc: Global,
+    sections: &Sections5<'a>,
+    units: &'r [UnitAnswer<'a>],
+    address: u32,
+    levels: &[UnitLevels],
+    place: Option<EntryPlace>,
+) -> Result<Found<'r, 'a>, NoMemory>
+    requires { AreLeveled levels.now units.now }
+    ensures subprogram { IfOk result (λ x. x.subprogram
+        ≡ option_and_then (tabled.placed units.now) place) }
+    ensures inlined { IfOk result (λ x. x.inlined ≡ inlined_from sections.now address
+        (option_and_then (tabled.placed units.now) place)) }
+{
+    match place {
+        Some(place) => found_there(alloc, sections, units, address, levels, place),
+        None => Ok(nothing_found(alloc)),
+    }
+}
+
 /// The subprograms of all units that are not removed, by the places where they stand. It is asked
 /// with the units that it was made of.
 #[derive(Drop)]
 pub struct SubprogramTable {
     places: Items<EntryPlace>,
     holders: Holders,
+    // Of each unit.
+    levels: Items<UnitLevels>,
 }
 
 impl SubprogramTable {
@@ -158,7 +229,12 @@ impl SubprogramTable {
     {
         let holders = holders_of(alloc, units)?;
         let places = all_places(alloc, units)?;
-        Ok(SubprogramTable { places, holders })
+        let levels = all_levels(alloc, units)?;
+        Ok(SubprogramTable {
+            places,
+            holders,
+            levels,
+        })
     }
 
     /// The first one that holds an address.
@@ -180,8 +256,35 @@ impl SubprogramTable {
         self.holders.first(alloc, sections, &subprograms, address)
     }
 
+    /// What stands at the place of a subprogram, if there is one.
+    #[tactic(auto, using(crate::proofs::TableLaws::got_number))]
+    fn found<'r, 'a>(
+        &self,
+        alloc: Global,
+        sections: &Sections5<'a>,
+        units: &'r [UnitAnswer<'a>],
+        address: u32,
+        number: Option<usize>,
+    ) -> Result<Found<'r, 'a>, NoMemory>
+        requires { tabled.IsTable units.now self.now }
+        ensures subprogram { IfOk result (λ x. x.subprogram
+            ≡ option_and_then (slice_get (kept units.now)) number) }
+        ensures inlined { IfOk result (λ x. x.inlined ≡ inlined_from sections.now address
+            (option_and_then (slice_get (kept units.now)) number)) }
+    {
+        let place = place_of_number(self.places.as_slice(), number);
+        found_at_place(
+            alloc,
+            sections,
+            units,
+            address,
+            self.levels.as_slice(),
+            place,
+        )
+    }
+
     /// What stands at an address.
-    #[tactic(auto, unfolding(crate::specs::Scopes::scopes_at, crate::specs::Scopes::inlined_at))]
+    #[tactic(auto, using(crate::proofs::Filters::found_kept), unfolding(crate::specs::Scopes::scopes_at, crate::specs::Scopes::inlined_at))]
     pub fn find<'r, 'a>(
         &self,
         alloc: Global,
@@ -195,8 +298,12 @@ impl SubprogramTable {
         ensures inlined { IfOk result (λ x. x.inlined
             ≡ scopes.inlined_at sections.now units.now address) }
     {
-        let subprogram = self.at(alloc, sections, units, address)?;
-        let found = Found::of(alloc, sections, address, subprogram)?;
+        let subprograms = PlacedSubprograms {
+            units,
+            places: self.places.as_slice(),
+        };
+        let number = self.holders.number(alloc, sections, &subprograms, address)?;
+        let found = self.found(alloc, sections, units, address, number)?;
         Ok(found)
     }
 }

@@ -42,7 +42,8 @@ fn passed(depth: u32, entry: &Entry<'_>, inside: usize) -> usize
     }
 }
 
-fn entries_behind<'r, 'a>(entries: &'r [Entry<'a>], at: usize) -> &'r [Entry<'a>]
+/// Those behind one.
+pub fn entries_behind<'r, 'a>(entries: &'r [Entry<'a>], at: usize) -> &'r [Entry<'a>]
     requires { at < length entries.now }
     ensures { result.now ≡ drop (at + 1) entries.now }
 {
@@ -106,7 +107,8 @@ fn first_counts(counts: &[usize], len: usize) -> &[usize]
     &counts[..len]
 }
 
-fn first_entries<'r, 'a>(entries: &'r [Entry<'a>], len: usize) -> &'r [Entry<'a>]
+/// The first ones, so many.
+pub fn first_entries<'r, 'a>(entries: &'r [Entry<'a>], len: usize) -> &'r [Entry<'a>]
     requires { len ≤ length entries.now }
     ensures { result.now ≡ take len entries.now }
 {

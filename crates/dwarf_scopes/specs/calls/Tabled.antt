@@ -7,6 +7,7 @@ use Rattle.dwarf_info.specs.declared.entry.UnitAnswer.TheVariants.{Tree, Unreada
 use Rattle.dwarf_entries.specs.Standing.{Standing, stands}
 use Rattle.dwarf_scopes.specs.declared.table.EntryPlace.{EntryPlace}
 use Rattle.dwarf_scopes.specs.declared.table.SubprogramTable.{SubprogramTable}
+use Rattle.dwarf_scopes.specs.calls.Levels.{AreLeveled}
 use Rattle.dwarf_scopes.specs.inner.Picks.{is_kept, kept}
 use Rattle.dwarf_scopes.specs.inner.Holding.{AreHolders}
 
@@ -45,4 +46,4 @@ places_from unit (u ∷ us) = places_of unit u ++ places_from (unit + 1) us
 
 -- A table of the subprograms of these units.
 abbrev pub IsTable : List UnitAnswer → SubprogramTable → Type 0
-IsTable units t = (t.places ≡ places_from 0 units) × AreHolders (kept units) t.holders
+IsTable units t = (t.places ≡ places_from 0 units) × AreHolders (kept units) t.holders × AreLeveled t.levels units

@@ -1,4 +1,4 @@
-use Rattle.std.proofs.Common.{◌∙◌, sym, arith}
+use Rattle.std.proofs.Common.{refl, ◌∙◌, sym, arith}
 use Rattle.dwarf_entries.specs.Standing.{of_unit}
 use Rattle.dwarf_scopes.specs.Scopes.{is_subprogram_at, subprogram_at}
 use Rattle.dwarf_scopes.proofs.Filters.{part_holds, part_lacks}
@@ -15,3 +15,6 @@ pub returns-in-Some : goal.returns-in-Some
 unfolding subprogram_at
 returns-in-Some c = sym (c.loop-answer.invariant.so_far
     ∙ part_holds (is_subprogram_at c.args.sections.now c.args.address) of_unit c.args.units.now c.loop-answer.answer-index c.answer-item.result c.in-Some.subprogram (omega arith) c.answer-item.is (sym c.in_ok-found.ensures.is ∙ c.in-Some.is))
+
+pub loop-answer-init : goal.loop-answer-init
+loop-answer-init c = record { right = c.no_ranges-lists.ensures c.args.sections.now c.args.address; so_far = refl }

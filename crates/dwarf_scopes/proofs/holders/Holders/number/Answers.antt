@@ -4,7 +4,7 @@ use Rattle.dwarf_scopes.specs.Ranges.{holds}
 use Rattle.dwarf_scopes.specs.calls.Steps.{answer}
 use Rattle.dwarf_scopes.specs.calls.Numbered.{passes, first_or}
 use Rattle.dwarf_scopes.proofs.HolderLaws.{first_is}
-use Rattle.dwarf_scopes.proofs.holders.Holders.first.Goals as goal
+use Rattle.dwarf_scopes.proofs.holders.Holders.number.Goals as goal
 
 pub first_or-requires : goal.first_or-requires
 first_or-requires c = record { right = c.no_ranges-lists.ensures c.args.sections.now c.args.address }
@@ -14,8 +14,7 @@ returns c =
     let s = c.args.sections.now in let a = c.args.address in let xs = c.args.entries.now in let h = c.args.self.now in
     let small : a < 2 ^ 32 = omega arith in
     let test = (λ (i : ℕ). passes (holds s a) (slice_get xs i)) in
-    c.entry_of.ensures
-    ∙ ap (option_and_then (slice_get xs)) (c.in_ok-number.ensures.is
+    ap (option_and_then (slice_get xs)) (c.in_ok-number.ensures.is
     ∙ ap (λ (o : Option ℕ). first_or test o c.as_slice-listed.result.now) c.at-named.ensures
     ∙ ap (first_or test (answer h.bounded a)) c.as_slice-listed.ensures)
     ∙ first_is s a xs h small c.requires
