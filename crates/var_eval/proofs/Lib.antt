@@ -5,3 +5,5 @@ mod Rows
 mod Walks
 mod Told
 mod SourceLaws
+mod NamedLaws
+mod OwnLaws

@@ -1,3 +1,4 @@
 pub mod Told
 pub mod PathTold
 pub mod Counted
+pub mod Named

@@ -2,7 +2,6 @@
 
 ghost use Rattle.std.specs.Prelude.{true, ◌≡◌, ◌<◌, ◌+◌, ◌*◌, ◌^◌, ◌||◌, nat_lt, drop, find, length, option_copied};
 ghost use Rattle.dwarf_entries.specs.Standing.{is_child};
-ghost use Rattle.dwarf_entries.specs.Tags.{tag_subrange};
 ghost use Rattle.dwarf_types.specs.Counts.{counts};
 ghost use Rattle.dwarf_types.specs.Types.{type_of as the_type};
 ghost use Rattle.dwarf_types.specs.Sizes.{type_size as the_size};
@@ -25,12 +24,12 @@ use dwarf_types::{
 };
 use var_values::{Mark, Source};
 
-/// The first subrange of an array of this depth.
-fn first_subrange<'r, 'a>(entries: &'r [Entry<'a>], depth: u32) -> Option<&'r Entry<'a>>
-    ensures { option_copied result ≡ find (is_child depth tag_subrange) entries.now }
+/// The first of a tag, of the children of an entry of this depth.
+pub fn first_child<'r, 'a>(entries: &'r [Entry<'a>], depth: u32, tag: u64) -> Option<&'r Entry<'a>>
+    ensures { option_copied result ≡ find (is_child depth tag) entries.now }
 {
     for entry in entries {
-        if is_child(entry, depth, SUBRANGE) {
+        if is_child(entry, depth, tag) {
             return Some(entry);
         }
     }
@@ -44,7 +43,7 @@ fn is_past(standing: &Standing<'_, '_>, skipped: usize, index: u32) -> bool
 {
     let depth = standing.entry().depth;
     let left = subranges_behind(standing.inside(), depth, skipped);
-    let Some(subrange) = first_subrange(left, depth) else {
+    let Some(subrange) = first_child(left, depth, SUBRANGE) else {
         return false;
     };
     match subrange_count(subrange) {

@@ -10,6 +10,7 @@ mod located;
 mod locations;
 mod meeting;
 mod members;
+mod named;
 mod part;
 mod path_shown;
 mod pointers;

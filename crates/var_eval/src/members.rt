@@ -1,13 +1,15 @@
 //! Steps to members (DWARF 4 section 5.5.6).
 
-ghost use Rattle.std.specs.Prelude.{◌≡◌, find, option_map, option_copied, ok_or};
+ghost use Rattle.std.specs.Prelude.{◌≡◌, true, OnOk, find, option_map, option_copied, ok_or};
 ghost use Rattle.var_values.specs.declared.mark.Mark.TheVariants.{UnsupportedType};
 ghost use Rattle.var_values.specs.Members.{part_at as the_place};
 ghost use Rattle.var_eval.specs.Steps as steps;
+ghost use Rattle.var_eval.specs.inner.Named as named;
 ghost use Rattle.var_eval.specs.inner.Told.{Tells};
 
 use crate::dead_end::DeadEnd;
 use crate::meeting::meet;
+use crate::named::{KnownMembers, NamedMember, known_member};
 use crate::part::Part;
 use crate::sourced_place::SourcedPlace;
 use dwarf_entries::name_or_empty;
@@ -111,8 +113,23 @@ fn item_part<'r, 'k, 'a>(
     }
 }
 
-/// The member of a name of a structure, class or union that stands there.
-fn member_of<'r, 'k, 'a>(
+/// A member of a structure that stands there, which is known to be what a name means; None for none.
+fn named_part<'r, 'k, 'a>(
+    units: &TypedUnits<'r, 'k, 'a>,
+    member: Option<NamedMember<'r, 'a>>,
+    spot: SourcedPlace,
+    past: bool,
+) -> Result<Part<'r, 'k, 'a>, DeadEnd>
+    ensures { Tells result (named.member_told units.now spot past member.entry) }
+{
+    match member {
+        Some(member) => member_part(units, member.entry(), spot, past),
+        None => Err(DeadEnd::Marked(Mark::UnsupportedType)),
+    }
+}
+
+/// The member of a name among all of a structure, class or union that stands there.
+fn found_part<'r, 'k, 'a>(
     alloc: Global,
     units: &TypedUnits<'r, 'k, 'a>,
     view: &FrameView<'_>,
@@ -133,21 +150,67 @@ fn member_of<'r, 'k, 'a>(
     }
 }
 
-/// The member of a name, of a structure, class or union.
-#[tactic(auto, using(crate::proofs::Stops::stopped), unfolding(crate::specs::Steps::member_step))]
+/// The member of a name of a structure, class or union that stands there. It is looked for among all
+/// where it is not known.
+#[tactic(auto, using(crate::proofs::NamedLaws::told_known))]
+fn member_of<'r, 'k, 'a>(
+    alloc: Global,
+    units: &TypedUnits<'r, 'k, 'a>,
+    view: &FrameView<'_>,
+    known: &mut KnownMembers<'r, 'a>,
+    own: bool,
+    name: &[u8],
+    standing: &TypeStanding<'r, 'k, 'a>,
+    spot: SourcedPlace,
+    past: bool,
+) -> Result<Part<'r, 'k, 'a>, DeadEnd>
+    requires own { own ≡ true → named.IsFound units.now standing.now }
+    requires known { named.AreKnown units.now known.old }
+    ensures told { Tells result
+        (steps.member_of units.now view.now.memory name.now standing.now spot past) }
+    ensures known { OnOk result (named.AreKnown units.now known.new) }
+{
+    let Ok(found) = known_member(alloc, units.units(), known, own, standing.standing(), name) else {
+        return Err(DeadEnd::NoMemory);
+    };
+    match found {
+        Some(member) => named_part(units, member, spot, past),
+        None => found_part(alloc, units, view, name, standing, spot, past),
+    }
+}
+
+/// The member of a name, of a structure, class or union. Where the entry of the part's type is the one
+/// at its offset, what is known of its members may serve.
+#[tactic(auto, using(crate::proofs::Stops::stopped, crate::proofs::OwnLaws::own_met), unfolding(crate::specs::Steps::member_step))]
 pub fn member_step<'r, 'k, 'a>(
     alloc: Global,
     units: &TypedUnits<'r, 'k, 'a>,
     view: &FrameView<'_>,
+    known: &mut KnownMembers<'r, 'a>,
+    own: bool,
     name: &[u8],
     part: Part<'r, 'k, 'a>,
 ) -> Result<Part<'r, 'k, 'a>, DeadEnd>
-    ensures { Tells result (steps.member_step units.now view.now.memory name.now part.entry) }
+    requires own { own ≡ true → named.IsOwn units.now part.type }
+    requires known { named.AreKnown units.now known.old }
+    ensures told { Tells result
+        (steps.member_step units.now view.now.memory name.now part.entry) }
+    ensures known { OnOk result (named.AreKnown units.now known.new) }
 {
     let Part { typed, spot, past } = part;
     let met = meet(units, typed, spot.place().bits)?;
     match class_of(met.standing.entry().tag) {
-        Class::Members => member_of(alloc, units, view, name, &met.standing, spot, past),
+        Class::Members => member_of(
+            alloc,
+            units,
+            view,
+            known,
+            own,
+            name,
+            &met.standing,
+            spot,
+            past,
+        ),
         _ => Err(DeadEnd::Marked(Mark::UnsupportedType)),
     }
 }

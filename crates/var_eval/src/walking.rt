@@ -1,12 +1,14 @@
 //! Steps one behind another.
 
-ghost use Rattle.std.specs.Prelude.{◌≡◌, IfOk};
+ghost use Rattle.std.specs.Prelude.{◌≡◌, true, IfOk, OnOk};
 ghost use Rattle.var_eval.specs.Steps as definitions;
+ghost use Rattle.var_eval.specs.inner.Named as named;
 ghost use Rattle.var_eval.specs.inner.Told.{Tells};
 
 use crate::dead_end::DeadEnd;
 use crate::elements::element_step;
 use crate::members::member_step;
+use crate::named::{KnownMembers, no_members};
 use crate::part::Part;
 use crate::pointers::pointer_step;
 use causes::NoMemory;
@@ -16,22 +18,39 @@ use std::alloc::Global;
 use var_path::Step;
 use var_values::{Mark, Source};
 
+/// Whether it is known behind a step that the entry of the part's type is the one at its offset, where
+/// that was known before it or not.
+fn owns(own: bool, step: &Step<'_>) -> bool
+    ensures { result ≡ named.owns own step.now }
+{
+    match step {
+        Step::Index(_) => own,
+        Step::Member(_) | Step::Arrow(_) | Step::Deref => true,
+    }
+}
+
 /// One step.
-#[tactic(auto, using(crate::proofs::Stops::stopped), unfolding(crate::specs::Steps::step))]
+#[tactic(auto, using(crate::proofs::Stops::stopped, crate::proofs::OwnLaws::own_pointer), unfolding(crate::specs::Steps::step))]
 fn take_step<'r, 'k, 'a>(
     alloc: Global,
     units: &TypedUnits<'r, 'k, 'a>,
     view: &FrameView<'_>,
+    known: &mut KnownMembers<'r, 'a>,
+    own: bool,
     part: Part<'r, 'k, 'a>,
     step: &Step<'_>,
 ) -> Result<Part<'r, 'k, 'a>, DeadEnd>
-    ensures { Tells result (definitions.step units.now view.now.memory part.entry step.now) }
+    requires own { own ≡ true → named.IsOwn units.now part.type }
+    requires known { named.AreKnown units.now known.old }
+    ensures told { Tells result
+        (definitions.step units.now view.now.memory part.entry step.now) }
+    ensures known { OnOk result (named.AreKnown units.now known.new) }
 {
     match step {
-        Step::Member(name) => member_step(alloc, units, view, name.as_slice(), part),
+        Step::Member(name) => { member_step(alloc, units, view, known, own, name.as_slice(), part) }
         Step::Arrow(name) => {
             let to = pointer_step(units, view, part)?;
-            member_step(alloc, units, view, name.as_slice(), to)
+            member_step(alloc, units, view, known, true, name.as_slice(), to)
         }
         Step::Index(index) => element_step(units, view, *index, part),
         Step::Deref => pointer_step(units, view, part),
@@ -47,9 +66,12 @@ fn take_steps<'r, 'k, 'a>(
 ) -> Result<Part<'r, 'k, 'a>, DeadEnd>
     ensures { Tells result (definitions.walk units.now view.now.memory steps.now whole.entry) }
 {
+    let mut known = no_members(alloc);
+    let mut own = false;
     let mut part = whole;
     for step in steps {
-        part = take_step(alloc, units, view, part, step)?;
+        part = take_step(alloc, units, view, &mut known, own, part, step)?;
+        own = owns(own, step);
     }
     Ok(part)
 }

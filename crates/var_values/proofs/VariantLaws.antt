@@ -72,7 +72,7 @@ unfolding items
 no_items units m p zero s none = refl
 no_items units m p (suc n) s none = absurd (omega arith)
 
-more_items : (units : List UnitAnswer) (m : Recorded) (p : Place) (n : ℕ) (s : Standing) → 0 < n
+pub more_items : (units : List UnitAnswer) (m : Recorded) (p : Place) (n : ℕ) (s : Standing) → 0 < n
     → items units m p n s ≡ flat_map (child_items units m p (items units m p (n - 1)) s.entry.depth) (inside s)
 unfolding items
 more_items units m p zero s some = absurd (omega arith)

@@ -1,8 +1,0 @@
-use Rattle.std.proofs.Common.{◌≡◌, drop}
-use Rattle.std.specs.Prelude.{find}
-use Rattle.dwarf_entries.specs.Standing.{is_child}
-use Rattle.dwarf_entries.specs.Tags.{tag_subrange}
-use Rattle.var_eval.proofs.elements.first_subrange.Given as goal
-
-abbrev pub invariant-loop-entry : goal.invariant-loop-entry
-invariant-loop-entry l = find (is_child l.depth tag_subrange) l.entries ≡ find (is_child l.depth tag_subrange) (drop l.entry-index l.entries)
