@@ -134,6 +134,7 @@ fn divisions_are_judged(alloc: Global, source: &Validated) -> Result<bool, NoMem
         Some(ValType::I32),
         Landings::new(alloc),
         Offsets::new(alloc),
+        Items::new(alloc),
     );
     let judged = all_leave(alloc, &context)?;
     Ok(judged)

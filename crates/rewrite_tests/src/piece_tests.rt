@@ -7,6 +7,7 @@ ghost use Rattle.wasm_syntax.specs.Module.{function_types};
 ghost use Rattle.wasm_format_laws.specs.calls.Sized.{Sized};
 
 use crate::code_tests::is_code;
+use crate::exit_tests::around;
 use crate::modules::valid;
 use causes::NoMemory;
 use guard_insert::guarded;
@@ -18,8 +19,8 @@ use rewrite_code::{
 use std::alloc::Global;
 use std::test::Fail;
 use unwind_rewrite::{
-    Site, TypeNumbers, branch_table, call_function, call_through_table, close_block, close_body,
-    helper, open_block, open_body, trap, wrapper,
+    Site, TypeNumbers, branch_table, call_function, call_through_table, close_block, helper,
+    open_block, trap, wrapper,
 };
 use wasm_syntax::{
     Basic, Binary, Compare, Convert, FuncType, Instr, Jump, ModuleParts, ValType, Value,
@@ -417,8 +418,7 @@ fn ends(context: &FunctionContext<'_, '_>, writer: &mut CodeWriter) -> Result<()
     requires there { 1 < length (function_types context.now.source) }
     requires none { context.now.landings ≡ [] }
 {
-    open_body(context, writer)?;
-    close_body(context, writer)?;
+    around(context, writer)?;
     let map = context.map();
     wrapper(map, writer, map.source().globals.as_slice(), 1, 2)?;
     helper(writer, &[2, 0])
@@ -529,6 +529,7 @@ fn writes_pieces(alloc: Global, source: &Validated) -> Result<bool, NoMemory>
         Some(ValType::I32),
         Landings::new(alloc),
         guarded,
+        Items::new(alloc),
     );
     let same = writes_all(alloc, &context)?;
     Ok(same)
