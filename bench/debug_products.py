@@ -316,12 +316,12 @@ def print_commands(size):
 
 # ---- frames
 
-def frames_of_scopes(size):
-    """Frames at addresses of their own in a subprogram with many blocks, which hold none of them."""
+def frames_of_scopes(size, kind="bounded block"):
+    """Frames at addresses of their own in a subprogram with many entries of this kind, which hold none of them."""
     calls = size // 66
     entries = Entries()
     entries.function()
-    entries.bytes += (CODES["bounded block"] + NONE) * ((size - 10 * calls) // 9)
+    entries.bytes += (CODES[kind] + NONE) * ((size - 10 * calls) // 9)
     return debugged(entries.done(), "bt", **many_calls(calls))
 
 
@@ -453,6 +453,7 @@ SHAPES = [
     ("commands `vars` over many subprograms", variable_commands),
     ("commands `print` over many variables", print_commands),
     ("frames over many blocks", frames_of_scopes),
+    ("frames over many inlined subroutines", lambda size: frames_of_scopes(size, "bounded inlined")),
     ("frames over subprograms with lists", frames_of_lists),
     ("frames over overlapping sequences", lambda size: frames_of_lines(size, overlapping_sequences)),
     ("frames over rows that do not ascend", lambda size: frames_of_lines(size, falling_rows)),

@@ -44,6 +44,7 @@ KINDS = {
     "bounded block": (0x0B, 0, [(LOW, ADDR), (HIGH, DATA4)]),
     "listed block": (0x0B, 0, [(RANGES, OFFSET)]),
     "short subrange": (0x21, 0, [(COUNT, DATA1)]),
+    "bounded inlined": (0x1D, 0, [(LOW, ADDR), (HIGH, DATA4)]),
 }
 CODES = {kind: u32(code) for code, kind in enumerate(KINDS, 1)}
 
