@@ -6,6 +6,7 @@ pub mod PlaceLaws
 pub mod MadeLaws
 pub mod WatchLaws
 pub mod StraightLaws
+pub mod PartLaws
 pub mod TallyLaws
 pub mod Labels
 pub mod Points

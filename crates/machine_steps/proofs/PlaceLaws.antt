@@ -89,3 +89,8 @@ frames_place p codes (f ∷ fs) (e ∷ es) pc ks vs h =
 
 pub position_place : (p : Program) (codes : List Code) (m : Machine) (c : Config) → StandsFor p codes m c → place_at p.module_ (position_of m) ≡ place_of c
 position_place p codes m c h = frames_place p codes c.frames m.stack.frames m.stack.position m.stack.controls m.stack.values h.frames
+
+-- the innermost frame stands at its next instruction
+pub first_stands : (es : List CallFrame) (e : CallFrame) (at : ℕ) → slice_get es 0 ≡ Some e → Some (record { function = e.function; index = at }) ≡ innermost es at
+first_stands [] e at q = absurd (cc)
+first_stands (f ∷ fs) e at q = ap (λ (k : CallFrame). innermost (k ∷ fs) at) (sym (some_is q))

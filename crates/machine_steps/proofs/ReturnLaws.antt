@@ -1,7 +1,7 @@
 -- A function is left.
 use Rattle.std.proofs.Common.{◌≡◌, ℕ, ◌-◌, List, [], ◌∷◌, ◌++◌, length, reverse, drop, refl, sym, ap, subst, ◌∙◌, append_assoc, length-append, arith}
 use Rattle.std.proofs.lemmas.List.{drop_at, append-nil}
-use Rattle.std.specs.Prelude.{Bool, true, Option, Some, None}
+use Rattle.std.specs.Prelude.{Bool, true, Option, Some, None, slice_get, slice_set}
 use Rattle.wasm_syntax.specs.declared.value.Value.{Value}
 use Rattle.wasm_syntax.specs.Machine as steps
 use Rattle.wasm_syntax.specs.Machine.{Label, label, Frame, joined, arrive, top, out_some}
@@ -15,6 +15,7 @@ use Rattle.machine_steps.specs.declared.layout.Stepped.TheVariants.{Next, Ended,
 use Rattle.machine_steps.specs.calls.Layout.{Level, Waiting}
 use Rattle.machine_steps.specs.calls.FramesMeet.{Point, Meets, Inner, return_at}
 use Rattle.machine_steps.specs.inner.Moves.{Carried, Leaves}
+use Rattle.pm_text.proofs.Lists.{some_is}
 use Rattle.machine_steps.proofs.Labels.{top_splits}
 use Rattle.machine_steps.proofs.Points.{stuck_meets}
 
@@ -26,6 +27,18 @@ pub lowest : {A : Type 0} (all above below : List A) (n : ℕ) → all ≡ above
 lowest all above below n e l =
     let k : length all - n ≡ length above = omega (arith, ap length e, length-append above below) in
     ap (λ j. drop j all) k ∙ ap (drop (length above)) e ∙ drop_at above below (length above) refl
+
+-- the topmost value takes the place of the deepest one above the others
+set_last : (v u : Value) (over below : List Value) → slice_set (drop (length over) (u ∷ (over ++ below))) 0 v ≡ v ∷ below
+set_last v u [] below = refl
+set_last v u (o ∷ os) below = set_last v o os below
+
+pub over_last : (v x : Value) (old kept over below : List Value) (height : ℕ) → old ≡ kept ++ (over ++ below) → kept ≡ x ∷ [] → length below ≡ height → Some v ≡ slice_get old 0 → slice_set (drop (length old - height - 1) old) 0 v ≡ kept ++ below
+over_last v x old kept over below height e k h p =
+    let all : old ≡ x ∷ (over ++ below) = e ∙ ap (λ l. l ++ (over ++ below)) k in
+    let same : v ≡ x = some_is (p ∙ ap (λ l. slice_get l 0) all) in
+    let n : length old - height - 1 ≡ length over = omega (arith, ap length all, length-append over below, h) in
+    ap (λ j. slice_set (drop j old) 0 v) n ∙ ap (λ l. slice_set (drop (length over) l) 0 v) all ∙ set_last v x over below ∙ ap (λ y. y ∷ below) same ∙ sym (ap (λ l. l ++ below) k)
 
 -- one value carried along
 pub carried_top : (kept over below : List Value) (v : Value) (popped : List Value) → Carried true kept → v ∷ popped ≡ kept ++ (over ++ below) → (kept ≡ v ∷ []) × (popped ≡ over ++ below)

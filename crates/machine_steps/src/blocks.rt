@@ -46,7 +46,8 @@ fn open(m: &mut CallStack, goes_to: usize, carries: bool, next: usize) -> Steppe
 }
 
 /// Opens a `block`.
-#[inline(always)]
+// It is called: inlined in the loop, it would have each step count the place in the side table too.
+#[inline(never)]
 pub(crate) fn block(m: &mut CallStack, code: &Code, t: Option<ValType>, next: usize) -> Stepped
     requires { next ≡ m.old.position + 1 }
     ensures frames { m.new.frames ≡ m.old.frames }

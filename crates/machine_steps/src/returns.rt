@@ -1,6 +1,6 @@
 //! A function is left (Core 4.4.7).
 
-ghost use Rattle.std.specs.Prelude.{◌≡◌, ◌+◌, ◌∷◌, ◌++◌, List, length, OnOk};
+ghost use Rattle.std.specs.Prelude.{◌≡◌, ◌+◌, ◌-◌, ◌∷◌, ◌++◌, List, length, drop, OnOk};
 ghost use Rattle.wasm_syntax.specs.declared.value.Value.{Value as Val};
 ghost use Rattle.machine_steps.specs.declared.layout.Control.{Control as Kept};
 ghost use Rattle.machine_steps.specs.declared.layout.CallFrame.{CallFrame as Framed};
@@ -13,6 +13,16 @@ use causes::NoMemory;
 use pm_text::Stack;
 use wasm_syntax::Value;
 
+/// Keeps so many of the lowest values and one above them, or all where there are not so many.
+#[inline(always)]
+fn keep_above(values: &mut Stack<Value>, height: usize)
+    ensures { values.new ≡ drop (length values.old - height - 1) values.old }
+{
+    if height < values.len() {
+        values.keep(height + 1);
+    }
+}
+
 /// Keeps the topmost value, if one is carried along, and so many of the lowest ones.
 #[inline(always)]
 pub(crate) fn unwind(
@@ -24,10 +34,12 @@ pub(crate) fn unwind(
         → Carried carries kept → length below ≡ height → OnOk result (values.new ≡ kept ++ below) }
 {
     if carries {
-        match values.pop() {
+        match values.peek(0) {
+            // It takes the place of the deepest value that goes.
             Some(v) => {
-                values.keep(height);
-                values.push(v)
+                keep_above(values, height);
+                values.set_top(v);
+                Ok(())
             }
             None => Ok(()),
         }

@@ -1,7 +1,10 @@
 //! Steps up to the fuel.
 
-ghost use Rattle.std.specs.Prelude.{◌≡◌, ◌<◌, Some, slice_get};
+ghost use Rattle.std.specs.Prelude.{◌≡◌, ℕ, ◌<◌, ◌≤◌, ◌-◌, ◌+◌, ◌^◌, Some, length, slice_get, take, drop, IfSome, MatchOption};
 ghost use Rattle.wasm_syntax.specs.Machine.{Engine, Config};
+ghost use Rattle.wasm_syntax.specs.declared.instruction.Basic.{Basic as Instruction};
+ghost use Rattle.wasm_syntax.specs.declared.instruction.Instr.TheVariants as instructions;
+ghost use Rattle.machine_code.specs.declared.prepared.Prepared.{Prepared as Prepares};
 ghost use Rattle.machine_steps.specs.declared.machine.Machine.{Machine as Kept};
 ghost use Rattle.machine_steps.specs.calls.Runs.{Begins, Came};
 ghost use Rattle.machine_steps.specs.calls.Watched.{Watched};
@@ -9,9 +12,10 @@ ghost use Rattle.machine_steps.specs.inner.Turns.{Made, Went};
 
 use crate::calls::code_at;
 use crate::machine::{Machine, Outcome};
-use crate::steps::{Innermost, Turn, step_in};
+use crate::steps::{Innermost, Turn, basic, step_in};
 use crate::watch::{Watch, standing};
 use machine_code::Prepared;
+use wasm_syntax::{Instr, Op};
 
 /// What a run came to, and the number of steps that it made. The step that traps counts; a call of
 /// an import is not made yet.
@@ -26,6 +30,97 @@ pub struct Ended {
 struct Steps {
     made: u64,
     fuel: u64,
+}
+
+/// The instructions from a position on, as many as there may be steps.
+#[inline(always)]
+fn part(ops: &[Op], start: usize, left: u64) -> &[Op]
+    ensures part { result.now ≡ take left (drop start ops.now) }
+    ensures room { length ops.now < 2 ^ 64 }
+{
+    if start < ops.len() {
+        let rest = &ops[start..];
+        if left < rest.len() as u64 {
+            &rest[..left as usize]
+        } else {
+            rest
+        }
+    } else {
+        &ops[..0]
+    }
+}
+
+/// Steps of instructions behind which the next one is run, up to another instruction, which is
+/// given, and which the machine stands at then. Where it gives none, the steps came to what is told.
+// The fuel and the end of the code are one test, and the position is worked out where the loop is
+// left, so that no register holds it.
+#[inline(always)]
+fn straight<'o, W: Watch>(
+    m: &mut Machine,
+    innermost: &Innermost<'_, '_>,
+    ops: &'o [Op],
+    left: &mut u64,
+    watch: &mut W,
+    told: &mut Outcome,
+) -> Option<&'o Op>
+    requires frame { slice_get m.old.stack.frames 0 ≡ Some innermost.now.frame }
+    requires ops { ops.now ≡ innermost.now.code.now.body.now.ops }
+    requires some { 0 < left.old }
+    ensures went { (prepared : Prepares) (depth start fuel : ℕ) (first : Kept) (before : W)
+        → slice_get prepared.codes.items innermost.now.frame.function ≡ Some innermost.now.code.now
+        → left.old ≤ fuel → start ≤ fuel - left.old
+        → Made W.Saw prepared depth first before (fuel - left.old) m.old watch.old
+        → MatchOption result
+        (Went W.Saw prepared depth first before start fuel told.new (fuel - left.new) m.new
+        watch.new)
+        (λ op. Made W.Saw prepared depth first before (fuel - left.new) m.new watch.new) }
+    ensures at { IfSome result (λ op. slice_get ops.now m.new.stack.position ≡ Some op.now) }
+    ensures other { IfSome result (λ op. (i : Instruction) → op.now.code ≡ instructions.Basic i
+        → ⊥) }
+    ensures stays { IfSome result (λ op. m.new.stack.frames ≡ m.old.stack.frames) }
+    ensures room { IfSome result (λ op. m.new.stack.position + 1 < 2 ^ 64) }
+    ensures some_left { IfSome result (λ op. 0 < left.new) }
+    ensures few { left.new ≤ left.old }
+{
+    let start = m.stack.position;
+    let mut rest = part(ops, start, *left);
+    let count = rest.len();
+    while let Some(op) = rest.first() {
+        match &op.code {
+            Instr::Basic(instruction) => {
+                watch.see(standing(innermost.frame, start + (count - rest.len())));
+                match basic(m, innermost.frame, instruction, told) {
+                    Turn::Straight => {}
+                    Turn::Came => {
+                        let made = count - rest.len();
+                        m.stack.position = start + made;
+                        *left -= made as u64;
+                        *left -= 1;
+                        return None;
+                    }
+                }
+            }
+            _ => {
+                let made = count - rest.len();
+                m.stack.position = start + made;
+                *left -= made as u64;
+                return Some(op);
+            }
+        }
+        // Written here and not above, so that what an instruction came to is not tested again.
+        rest = &rest[1..];
+    }
+    m.stack.position = start + count;
+    *left -= count as u64;
+    if *left == 0 {
+        *told = Outcome::Next;
+        return None;
+    }
+    // The code is at its end.
+    watch.see(standing(innermost.frame, start + count));
+    *left -= 1;
+    *told = Outcome::Stuck;
+    None
 }
 
 /// Steps in the innermost frame, behind the first ones of a run, up to one that may have gone
@@ -51,11 +146,13 @@ fn steps_in<W: Watch>(
 {
     let code = innermost.code;
     let ops = code.body.ops.as_slice();
-    let mut position = m.stack.position;
     let mut left = steps.fuel - steps.made;
     while left > 0 {
-        watch.see(standing(m, innermost.frame));
-        match step_in(m, prepared, innermost, ops, depth, &mut position, told) {
+        let Some(op) = straight(m, innermost, ops, &mut left, watch, told) else {
+            return steps.fuel - left;
+        };
+        watch.see(standing(innermost.frame, m.stack.position));
+        match step_in(m, prepared, innermost, op, depth, told) {
             Turn::Straight => {}
             Turn::Came => match *told {
                 Outcome::Import(_) => return steps.fuel - left,

@@ -1,7 +1,6 @@
 //! One step.
 
-ghost use Rattle.std.specs.Prelude.{◌≡◌, ◌+◌, ◌<◌, ◌^◌, IsSome, Some, slice_get, take, drop};
-ghost use Rattle.std.specs.Option.{option_copied};
+ghost use Rattle.std.specs.Prelude.{◌≡◌, ℕ, ◌+◌, ◌<◌, ◌^◌, Some, slice_get, take, drop};
 ghost use Rattle.wasm_syntax.specs.Tree.{Plain, Goes, BrTable, Call, CallIndirect, item_of, jump_of};
 ghost use Rattle.wasm_syntax.specs.Machine.{Engine, Config, step};
 ghost use Rattle.wasm_syntax.specs.declared.instruction.Basic.{Basic as Instruction};
@@ -12,7 +11,7 @@ ghost use Rattle.machine_code.specs.calls.Prepares.{IsPrepared};
 ghost use Rattle.machine_steps.specs.calls.Meets.{StandsFor, Here, Meets, MeetsAt, outcome_of};
 ghost use Rattle.machine_steps.specs.declared.machine.Machine.{Machine as Kept};
 ghost use Rattle.machine_steps.specs.inner.Moves.{InFrame, stepped_of};
-ghost use Rattle.machine_steps.specs.inner.Turns.{came_to, Stays, GoesOn};
+ghost use Rattle.machine_steps.specs.inner.Turns.{came_to, behind, placed, Stays, NoCall};
 
 use crate::blocks::{block, if_, loop_};
 use crate::branches::{branch, branch_if, branch_table, else_, end, inside};
@@ -57,28 +56,25 @@ fn reached(reach: Reach, told: &mut Outcome) -> Turn
     }
 }
 
-/// Performs an instruction behind which the next one is run.
+/// Performs an instruction behind which the next one is run. The position stays as it is: the loop
+/// has it in hand, and tells the machine where it leaves its instructions.
 #[inline(always)]
-fn basic(
+pub(crate) fn basic(
     m: &mut Machine,
     frame: CallFrame,
     instruction: &Basic,
-    next: usize,
     told: &mut Outcome,
 ) -> Turn
-    requires next { next ≡ m.old.stack.position + 1 }
     requires frame { slice_get m.old.stack.frames 0 ≡ Some frame }
-    ensures meets { (x : Point) (code : FlatCode) → Here x m.old code
-        → Reads m.old.stack code (Plain instruction.now)
-        → MeetsAt x (came_to result told.new) (step_at x) m.new }
-    ensures stays { Stays result m.old m.new }
-    ensures goes_on { GoesOn result next m.new }
+    ensures meets { (x : Point) (code : FlatCode) (position : ℕ)
+        → Here x (placed position m.old) code
+        → Reads (placed position m.old).stack code (Plain instruction.now)
+        → MeetsAt x (came_to result told.new) (step_at x) (placed (behind result position) m.new) }
+    ensures stays { m.new.stack.frames ≡ m.old.stack.frames }
+    ensures no_call { NoCall result told.new }
 {
     match perform(instruction, frame.base, &mut m.stack.values, &mut m.shared) {
-        Performed::Done => {
-            m.stack.position = next;
-            Turn::Straight
-        }
+        Performed::Done => Turn::Straight,
         Performed::Trap(kind) => {
             tell(Stepped::Trap(kind), told);
             Turn::Came
@@ -266,9 +262,10 @@ fn jump(
     }
 }
 
-/// Runs an instruction that opens, ends or leaves a block, or jumps. It is called, so that the loop
-/// holds what it needs for the other instructions alone.
-#[inline(never)]
+/// Runs an instruction that opens, ends or leaves a block, or jumps.
+// It is inlined in the loop with its usual parts, which take no more than a call of them would. The
+// rare ones are called.
+#[inline(always)]
 fn control(
     m: &mut Machine,
     prepared: &Prepared,
@@ -302,87 +299,29 @@ fn control(
     }
 }
 
-/// Runs an instruction in a frame. The position that the machine goes on at is told, so that the
-/// loop need not read it from the machine.
-#[inline(always)]
-fn run_op(
-    m: &mut Machine,
-    prepared: &Prepared,
-    innermost: &Innermost<'_, '_>,
-    instruction: &Instr,
-    depth: usize,
-    position: &mut usize,
-    told: &mut Outcome,
-) -> Turn
-    requires position { position.old ≡ m.old.stack.position }
-    requires room { position.old + 1 < 2 ^ 64 }
-    requires frame { slice_get m.old.stack.frames 0 ≡ Some innermost.now.frame }
-    ensures meets { (x : Point) → Here x m.old innermost.now.code.now
-        → x.codes ≡ prepared.now.codes.items
-        → IsPrepared x.engine.program prepared.now → x.engine.depth ≡ depth
-        → Reads m.old.stack innermost.now.code.now
-        (item_of innermost.now.code.now.body.now.targets instruction.now)
-        → MeetsAt x (came_to result told.new) (step_at x) m.new }
-    ensures stays { Stays result m.old m.new }
-    ensures goes_on { GoesOn result position.new m.new }
-{
-    let next = *position + 1;
-    match instruction {
-        Instr::Basic(instruction) => {
-            *position = next;
-            basic(m, innermost.frame, instruction, next, told)
-        }
-        _ => {
-            let turn = control(m, prepared, innermost, instruction, depth, next, told);
-            *position = m.stack.position;
-            turn
-        }
-    }
-}
-
-/// The instruction at a position, behind which there is another index.
-#[tactic(auto, using(std::proofs::lemmas::Option::slice_get_past))]
-#[inline(always)]
-fn op_at(ops: &[Op], position: usize) -> Option<&Op>
-    ensures value { option_copied result ≡ slice_get ops.now position }
-    ensures room { IsSome result → position + 1 < 2 ^ 64 }
-{
-    if position < ops.len() {
-        ops.get(position)
-    } else {
-        None
-    }
-}
-
-/// One step of the machine in its innermost frame, which runs this code of these instructions, is
-/// one step of each configuration that it stands for. An outcome is told where it may have gone
-/// elsewhere.
+/// One step of the machine in its innermost frame, which runs this code, is one step of each
+/// configuration that it stands for. The instruction at its position is this one, which opens, ends
+/// or leaves a block, or jumps. An outcome is told where it may have gone elsewhere.
 #[inline(always)]
 pub(crate) fn step_in(
     m: &mut Machine,
     prepared: &Prepared,
     innermost: &Innermost<'_, '_>,
-    ops: &[Op],
+    op: &Op,
     depth: usize,
-    position: &mut usize,
     told: &mut Outcome,
 ) -> Turn
-    requires position { position.old ≡ m.old.stack.position }
+    requires room { m.old.stack.position + 1 < 2 ^ 64 }
     requires frame { slice_get m.old.stack.frames 0 ≡ Some innermost.now.frame }
     requires code { slice_get prepared.now.codes.items innermost.now.frame.function
         ≡ Some innermost.now.code.now }
-    requires ops { ops.now ≡ innermost.now.code.now.body.now.ops }
+    requires op { slice_get innermost.now.code.now.body.now.ops m.old.stack.position ≡ Some op.now }
+    requires control { (i : Instruction) → op.now.code ≡ instructions.Basic i → ⊥ }
     ensures meets { (engine : Engine) (c : Config) → IsPrepared engine.program prepared.now
         → engine.depth ≡ depth → StandsFor engine.program prepared.now.codes.items m.old c
         → Meets engine prepared.now.codes.items c (came_to result told.new) (step engine c) m.new }
     ensures stays { Stays result m.old m.new }
-    ensures goes_on { GoesOn result position.new m.new }
 {
-    match op_at(ops, *position) {
-        Some(op) => run_op(m, prepared, innermost, &op.code, depth, position, told),
-        None => {
-            tell(Stepped::Stuck, told);
-            Turn::Came
-        }
-    }
+    let next = m.stack.position + 1;
+    control(m, prepared, innermost, &op.code, depth, next, told)
 }

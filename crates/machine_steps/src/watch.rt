@@ -2,12 +2,12 @@
 
 ghost use Rattle.std.specs.Prelude.{◌≡◌, ◌++◌, ◌∷◌, [], List, Option, Some, slice_get};
 ghost use Rattle.wasm_syntax.specs.declared.module.ModuleParts.{ModuleParts as Module};
+ghost use Rattle.machine_steps.specs.declared.machine.Machine.{Machine as Kept};
 ghost use Rattle.machine_steps.specs.Places.{Place};
 ghost use Rattle.machine_steps.specs.calls.Watches.{place_at};
 ghost use Rattle.machine_steps.specs.calls.Watched.{position_of};
 
 use crate::layout::CallFrame;
-use crate::machine::Machine;
 
 /// Where a machine stands: the index of a function among those that the module defines, and of an
 /// instruction in its flat body.
@@ -39,14 +39,14 @@ impl Watch for Unwatched {
     fn see(&mut self, at: Option<Position>) {}
 }
 
-/// Where the innermost frame stands, which is this one.
+/// Where the innermost frame stands, which is this one, where its next instruction is this one.
 #[inline(always)]
-pub(crate) fn standing(m: &Machine, frame: CallFrame) -> Option<Position>
-    requires { slice_get m.now.stack.frames 0 ≡ Some frame }
-    ensures { result ≡ position_of m.now }
+pub(crate) fn standing(frame: CallFrame, index: usize) -> Option<Position>
+    ensures { (m : Kept) → slice_get m.stack.frames 0 ≡ Some frame → m.stack.position ≡ index
+        → result ≡ position_of m }
 {
     Some(Position {
         function: frame.function,
-        index: m.stack.position,
+        index,
     })
 }

@@ -1,9 +1,10 @@
 -- Steps in a frame.
-use Rattle.std.specs.Prelude.{◌≡◌, ℕ, ◌<◌, ◌≤◌, List, Option}
+use Rattle.std.specs.Prelude.{◌≡◌, ℕ, ◌+◌, ◌<◌, ◌≤◌, List, Option}
 use Rattle.wasm_syntax.specs.declared.module.ModuleParts.{ModuleParts as Module}
 use Rattle.wasm_syntax.specs.Machine.{Engine, Config}
 use Rattle.machine_code.specs.declared.prepared.Prepared.{Prepared}
 use Rattle.machine_steps.specs.declared.machine.Machine.{Machine}
+use Rattle.machine_steps.specs.declared.machine.ImportCall.{ImportCall}
 use Rattle.machine_steps.specs.declared.machine.Outcome.{Outcome}
 use Rattle.machine_steps.specs.declared.machine.Outcome.TheVariants.{Next, Ended, Trap, Import, NoMemory, Stuck}
 use Rattle.machine_steps.specs.declared.steps.Turn.{Turn}
@@ -23,10 +24,19 @@ abbrev pub Stays : Turn → Machine → Machine → Type 0
 Stays Straight m m' = m'.stack.frames ≡ m.stack.frames
 Stays Came m m' = Unit {0}
 
--- where the next instruction is run, it is the one at this position
-abbrev pub GoesOn : Turn → ℕ → Machine → Type 0
-GoesOn Straight position m = position ≡ m.stack.position
-GoesOn Came position m = Unit {0}
+-- the machine with its position here
+abbrev pub placed : ℕ → Machine → Machine
+placed here m = record m { stack = record m.stack { position = here } }
+
+-- where a machine stands behind an instruction that was at this position
+abbrev pub behind : Turn → ℕ → ℕ
+behind Straight here = here + 1
+behind Came here = here
+
+-- it came to no call of an import
+abbrev pub NoCall : Turn → Outcome → Type 0
+NoCall Straight told = Unit {0}
+NoCall Came told = (call : ImportCall) → told ≡ Import call → ⊥
 
 module _ {W : Type 0} (saw : Module → W → List (Option Place) → Type 0) (prepared : Prepared) (depth : ℕ) (m : Machine) (before : W) where
   -- so many steps of a run were made and seen
