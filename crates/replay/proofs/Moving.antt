@@ -12,6 +12,8 @@ use Rattle.replay.specs.Moves.{Replay, OfEach, Shows, Went, Found, IsNext, HasNo
 use Rattle.replay.specs.inner.Tracks.{WaitsAt, ReachedAt, NextIn}
 use Rattle.replay.proofs.Runs.{known, shows}
 use Rattle.replay.proofs.Ending.{waits}
+use Rattle.replay.proofs.Advances.{all_made}
+use Rattle.replay.proofs.Tracks.{waits_there}
 
 -- a point shows the state behind its steps
 pub point_shows : (x : Recording) (n : ℕ) (answer : RunEnd) (q : Point) → ReachedAt x n answer q → OfEach x (λ p. Shows p x n q.instance)
@@ -26,6 +28,12 @@ there_is x n answer q function offset b r tells = λ p is.
 -- before the last step it goes on
 pub goes_on : (x : Recording) (n end : ℕ) (answer : RunEnd) (q : Point) → ReachedAt x n answer q → OfEach x (λ p. IsEnd p x end) → n < end → WaitsAt x n q
 goes_on x n end answer q r ends lt = subst (λ (a : RunEnd). ReachedAt x n a q) (waits x n q.next end answer q.instance r ends lt) r
+
+-- and may go on up to a later one, behind as many as it made
+pub goes_up_to : (x : Recording) (n step end : ℕ) (answer : RunEnd) (q : Point) → ReachedAt x n answer q → OfEach x (λ p. IsEnd p x end) → n < step → step ≤ end → WaitsAt x q.instance.steps q × (q.instance.steps ≡ n)
+goes_up_to x n step end answer q r ends lt le =
+    let w = goes_on x n end answer q r ends (omega (arith, lt, le)) in
+    (waits_there x n q w, all_made x n q.next q.instance w)
 
 module _ (x : Recording) (function offset from : ℕ) where
   -- up to a step it is not there

@@ -21,7 +21,7 @@ module _ (x : Recording) (every made piece : ℕ) (t : Track) (before after : Po
   ends_at not_spent =
       let m : after.instance.steps ≤ made + piece = came.made in (
         ended x (made + piece) after.next answer after.instance came not_spent within,
-        covered x every made after.instance.steps t.spacing t.points.items fresh
+        covered x every made after.instance.steps t.spacing t.wide t.points.items fresh
             (made_more x made (made + piece) before.next after.next answer before.instance after.instance waits came not_spent)
             (omega (arith, m, near)),
       )
@@ -38,12 +38,12 @@ module _ (x : Recording) (every made piece : ℕ) (t : Track) (before after : Po
   spent_here e all =
       let w : WaitsAt x x.fuel after = subst (λ (n : ℕ). WaitsAt x n after) all (waits_then e) in (
         subst (λ (a : RunEnd). Ends x (made + piece) a) (sym e) (subst (λ (n : ℕ). Ends x n FuelSpent) (sym all) (spent x after.next after.instance w)),
-        covered x every made (made + piece) t.spacing t.points.items fresh (omega arith) (omega (arith, near)),
+        covered x every made (made + piece) t.spacing t.wide t.points.items fresh (omega arith) (omega (arith, near)),
       )
 
   -- it goes on behind it
   pub goes_on : answer ≡ FuelSpent → made + piece ≢ x.fuel → WaitsAt x (made + piece) after × DueIn x every (made + piece) t
-  goes_on e more = (waits_then e, next_due x every made piece t.spacing t.points.items fresh (omega (arith, within, is_piece, more)))
+  goes_on e more = (waits_then e, next_due x every made piece t.spacing t.wide t.points.items fresh (omega (arith, within, is_piece, more)))
 
   pub shrinks : made + piece ≢ x.fuel → x.fuel - (made + piece) < x.fuel - made
   shrinks more = let apart = fresh.up_to.apart in omega (arith, few, is_piece, apart, more)

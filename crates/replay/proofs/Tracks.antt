@@ -1,14 +1,20 @@
 -- Checkpoints.
-use Rattle.std.proofs.Common.{◌≡◌, ℕ, zero, suc, ◌+◌, ◌*◌, ◌/◌, ◌<◌, ◌≤◌, List, [], ◌∷◌, ◌++◌, length, slice_get, refl, sym, ap, ap₂, subst, ◌∙◌, arith, append_assoc}
-use Rattle.std.specs.Prelude.{max, Option, Some, None, option_to_list}
-use Rattle.std.proofs.lemmas.List.{length-append, append-nil}
+use Rattle.std.proofs.Common.{◌≡◌, ◌⊎◌, ℕ, zero, suc, ◌+◌, ◌*◌, ◌/◌, ◌<◌, ◌≤◌, List, [], ◌∷◌, ◌++◌, length, get_or, slice_get, inl, inr, refl, sym, ap, subst, ◌∙◌, arith}
+use Rattle.std.specs.Prelude.{max, Some, None}
+use Rattle.std.specs.List.{remove}
+use Rattle.std.proofs.Math.Nat.{mul-le-mul_right, div-mul-le_self, lt-div-mul-add}
+use Rattle.std.proofs.lemmas.Bool.{cases_lt}
+use Rattle.std.proofs.lemmas.List.{length-append}
+use Rattle.std.proofs.lemmas.List.Edits.{length-remove, get_or-remove_below, get_or-remove_above}
+use Rattle.std.proofs.lemmas.Option.{slice_get_cases, slice_get_within, slice_get_read, get_or_from_slice_get}
 use Rattle.machine_hosted.specs.declared.answer.RunEnd.{RunEnd}
-use Rattle.machine_hosted.specs.declared.answer.RunEnd.TheVariants.{FuelSpent}
 use Rattle.wasm_machine.specs.calls.Instances.{State, copied}
 use Rattle.replay.specs.declared.point.Point.{Point}
 use Rattle.replay.specs.Replays.{Recording}
 use Rattle.replay.specs.inner.Reached.{Reached}
-use Rattle.replay.specs.inner.Tracks.{WaitsAt, ReachedAt, Spaced, every_second, Due, Fresh, Covers}
+use Rattle.replay.specs.inner.Tracks.{WaitsAt, ReachedAt, place, Spaced, widest, Due, Fresh, Covers, Nearest}
+use Rattle.replay.proofs.Advances.{all_made}
+use Rattle.pm_text.proofs.Lists.{some_is, get_front, get_last}
 
 -- a copy came as far
 pub copy_reached : (x : Recording) (n next : ℕ) (answer : RunEnd) (s : State) → Reached x n next answer s → Reached x n next answer (copied s)
@@ -43,139 +49,236 @@ copy_stands x n answer q copy r same =
     let c : ReachedAt x n answer (record { next = q.next; instance = copied q.instance }) = copy_reached x n q.next answer q.instance r in
     subst (λ (b : Point). ReachedAt x n answer b) (sym same) c
 
--- ---- points so far apart
+-- as many steps are made as it is behind
+pub waits_there : (x : Recording) (n : ℕ) (q : Point) → WaitsAt x n q → WaitsAt x q.instance.steps q
+waits_there x n q w = subst (λ (k : ℕ). WaitsAt x k q) (sym (all_made x n q.next q.instance w)) w
 
-no_items : {A : Type 0} (xs : List A) → length xs ≡ 0 → xs ≡ []
-no_items [] e = refl
-no_items (a ∷ xs) e = absurd (omega (arith, e))
+-- ---- where they stand
 
-step_over : (from n k : ℕ) → from + k + n * k ≡ from + suc n * k
-step_over from n k = grind arith
+-- one more, behind all others
+pub spaced_more : (x : Recording) (k w : ℕ) (qs : List Point) (q : Point) → Spaced x k w qs → WaitsAt x (place w (length qs) * k) q → Spaced x k w (qs ++ q ∷ [])
+spaced_more x k w qs q s at i p e = by_case (slice_get_cases qs i).1
+  where
+    by_case : ((y : Point) × (i < length qs) × (slice_get qs i ≡ Some y) × (get_or qs i y ≡ y)) ⊎ ((length qs ≤ i) × (slice_get qs i ≡ None)) → WaitsAt x (place w i * k) p
+    by_case (inl h) =
+        let same : h.0 ≡ p = some_is (sym (get_front qs (q ∷ []) i h.0 h.2) ∙ e) in
+        subst (λ (b : Point). WaitsAt x (place w i * k) b) same (s i h.0 h.2)
+    by_case (inr h) =
+        let within : i < length (qs ++ q ∷ []) = slice_get_within (qs ++ q ∷ []) i p e in
+        let count : length (qs ++ q ∷ []) ≡ length qs + 1 = length-append qs (q ∷ []) in
+        let le : length qs ≤ i = h.0 in
+        let last : length qs ≡ i = omega (arith, le, within, count) in
+        let same : q ≡ p = some_is (sym (get_last qs q) ∙ ap (slice_get (qs ++ q ∷ [])) last ∙ e) in
+        subst (λ (n : ℕ). WaitsAt x (place w n * k) p) last (subst (λ (b : Point). WaitsAt x (place w (length qs) * k) b) same at)
 
-pub spaced_at : (x : Recording) (k from : ℕ) (qs : List Point) (i : ℕ) (q : Point) → Spaced x k from qs → slice_get qs i ≡ Some q → WaitsAt x (from + i * k) q
-spaced_at x k from [] i q s e = absurd (cc)
-spaced_at x k from (a ∷ qs) zero q s e =
-    let same : a ≡ q = cc in
-    let at : from ≡ from + 0 * k = grind arith in
-    subst (λ (n : ℕ). WaitsAt x n q) at (subst (λ (b : Point). WaitsAt x from b) same s.0)
-spaced_at x k from (a ∷ qs) (suc i) q s e = subst (λ (n : ℕ). WaitsAt x n q) (step_over from i k) (spaced_at x k (from + k) qs i q s.1 e)
+-- the one between the first two narrow gaps is dropped
+pub spaced_removed : (x : Recording) (k w : ℕ) (qs : List Point) → suc w < length qs → Spaced x k w qs → Spaced x k (suc w) (remove qs (suc w))
+spaced_removed x k w qs lt s i q e = by_order (cases_lt i (suc w))
+  where
+    there : get_or (remove qs (suc w)) i q ≡ q
+    there = get_or_from_slice_get (remove qs (suc w)) i q q e
 
-pub spaced_more : (x : Recording) (k from : ℕ) (qs : List Point) (q : Point) → Spaced x k from qs → WaitsAt x (from + length qs * k) q → Spaced x k from (qs ++ q ∷ [])
-spaced_more x k from [] q s w = let at : from + 0 * k ≡ from = grind arith in (subst (λ (n : ℕ). WaitsAt x n q) at w, tt)
-spaced_more x k from (a ∷ qs) q s w = (s.0, spaced_more x k (from + k) qs q s.1 (subst (λ (n : ℕ). WaitsAt x n q) (sym (step_over from (length qs) k)) w))
+    at : (j : ℕ) → j < length qs → get_or qs j q ≡ q → place w j ≡ place (suc w) i → WaitsAt x (place (suc w) i * k) q
+    at j within is same = subst (λ (n : ℕ). WaitsAt x (n * k) q) same (s j q (slice_get_read qs (length qs) j q refl within (sym is)))
 
-pub spaced_second : (x : Recording) (k from : ℕ) (qs : List Point) → Spaced x k from qs → Spaced x (k + k) from (every_second qs)
-unfolding every_second
-spaced_second x k from [] s = tt
-spaced_second x k from (a ∷ []) s = (s.0, tt)
-spaced_second x k from (a ∷ b ∷ qs) s =
-    let at : from + k + k ≡ from + (k + k) = omega arith in
-    (s.0, subst (λ (n : ℕ). Spaced x (k + k) n (every_second qs)) at (spaced_second x k (from + k + k) qs s.1.1))
+    by_order : (i < suc w) ⊎ (suc w ≤ i) → WaitsAt x (place (suc w) i * k) q
+    by_order (inl less) = at i (omega (arith, less, lt)) (sym (get_or-remove_below qs (suc w) q i less lt) ∙ there) (omega (arith, less))
+    by_order (inr more) =
+        let within : i < length (remove qs (suc w)) = slice_get_within (remove qs (suc w)) i q e in
+        let count : length (remove qs (suc w)) + 1 ≡ length qs = length-remove qs (suc w) lt in
+        at (i + 1) (omega (arith, within, count)) (sym (get_or-remove_above qs (suc w) q i more lt) ∙ there) (omega (arith, more))
 
-pub half_of : {A : Type 0} (n : ℕ) (xs : List A) → length xs ≡ n + n → length (every_second xs) ≡ n
-unfolding every_second
-half_of n [] e = omega (arith, e)
-half_of n (a ∷ []) e = absurd (omega (arith, e))
-half_of zero (a ∷ b ∷ xs) e = absurd (omega (arith, e))
-half_of (suc n) (a ∷ b ∷ xs) e = ap (λ (k : ℕ). suc k) (half_of n xs (omega (arith, e)))
+-- where all gaps are wide, that is the spacing
+pub spaced_doubled : (x : Recording) (k w : ℕ) (qs : List Point) → length qs ≤ suc w → Spaced x k w qs → Spaced x (k * 2) 0 qs
+spaced_doubled x k w qs few s i q e =
+    let within : i < length qs = slice_get_within qs i q e in
+    let twice : place w i ≡ i + i = omega (arith, few, within) in
+    let once : i ≡ place 0 i = omega arith in
+    subst (λ (n : ℕ). WaitsAt x n q) (ap (λ (n : ℕ). n * k) twice ∙ two i ∙ ap (λ (n : ℕ). n * (k * 2)) once) (s i q e)
+  where
+    two : (n : ℕ) → (n + n) * k ≡ n * (k * 2)
+    two n = grind arith
 
--- one point is kept, and the next one is not
-pub next_kept : (kept pushed all before after rest : List Point) (point : Point) (o : Option Point) → kept ++ every_second before ≡ all → before ≡ point ∷ after → after ≡ option_to_list o ++ rest → (o ≡ None → length after ≡ 0) → pushed ≡ kept ++ point ∷ []
-    → pushed ++ every_second rest ≡ all
-unfolding every_second
-next_kept kept pushed all before after rest point (Some b) so at one none e =
-    ap (λ (qs : List Point). qs ++ every_second rest) e
-    ∙ append_assoc kept (point ∷ []) (every_second rest)
-    ∙ ap (λ (qs : List Point). kept ++ every_second (point ∷ qs)) (sym one)
-    ∙ ap (λ (qs : List Point). kept ++ every_second qs) (sym at)
-    ∙ so
-next_kept kept pushed all before after rest point None so at one none e =
-    let empty : after ≡ [] = no_items after (none refl) in
-    ap₂ (λ (qs bs : List Point). qs ++ every_second bs) e (sym one ∙ empty)
-    ∙ append-nil (kept ++ point ∷ [])
-    ∙ ap (λ (qs : List Point). kept ++ every_second (point ∷ qs)) (sym empty)
-    ∙ ap (λ (qs : List Point). kept ++ every_second qs) (sym at)
-    ∙ so
+-- the next one is a gap behind it
+gap : (w i k : ℕ) → place w (suc i) * k ≤ place w i * k + widest k w
+gap zero i k =
+    let one : place zero (suc i) * k ≡ suc (place zero i) * k = ap (λ (n : ℕ). n * k) (omega arith) in
+    let more : suc (place zero i) * k ≡ place zero i * k + k = grind arith in
+    omega (arith, one, more)
+gap (suc w) i k =
+    let two : place (suc w) (suc i) * k ≤ (place (suc w) i + 2) * k = mul-le-mul_right k (omega arith) in
+    let more : (place (suc w) i + 2) * k ≡ place (suc w) i * k + k * 2 = grind arith in
+    omega (arith, two, more)
 
-pub all_kept : (kept all left : List Point) → kept ++ every_second left ≡ all → length left ≡ 0 → kept ≡ all
-unfolding every_second
-all_kept kept all left so none =
-    sym (append-nil kept) ∙ ap (λ (qs : List Point). kept ++ every_second qs) (sym (no_items left none)) ∙ so
+-- one that stands up to so many spacings
+pub below_step : (n k step : ℕ) → n ≤ step / k → n * k ≤ step
+below_step n k step le =
+    let few : n * k ≤ step / k * k = mul-le-mul_right k le in
+    let whole : step / k * k ≤ step = div-mul-le_self step k in
+    omega (arith, few, whole)
+
+-- and behind which the next one stands behind them
+pub within_gap : (w i k step : ℕ) → 1 ≤ k → step / k < place w (suc i) → step ≤ place w i * k + widest k w
+within_gap w i k step some lt =
+    let many : suc (step / k) * k ≤ place w (suc i) * k = mul-le-mul_right k lt in
+    let over : step < step / k * k + k = lt-div-mul-add some in
+    let more : suc (step / k) * k ≡ step / k * k + k = grind arith in
+    let g = gap w i k in
+    omega (arith, many, over, more, g)
+
+-- the last one
+pub within_last : (w last count k step : ℕ) → count ≡ suc last → step ≤ place w count * k → step ≤ place w last * k + widest k w
+within_last w last count k step one le =
+    let same : place w count * k ≡ place w (suc last) * k = ap (λ (n : ℕ). place w n * k) one in
+    let g = gap w last k in
+    omega (arith, le, same, g)
 
 -- ---- one checkpoint more
 
 -- the bound holds of more steps
-pub near_later : (every k here later : ℕ) → here ≤ later → k ≤ max every (here / 8) → k ≤ max every (later / 8)
+near_later : (every k here later : ℕ) → here ≤ later → k ≤ max every (here / 8) → k ≤ max every (later / 8)
 near_later every k here later le h = omega (arith, le, h)
 
--- every second one is dropped, and one is due at the same step
-pub second_due : (x : Recording) (every here k : ℕ) (points kept : List Point) → Due x every here k points → 16 ≤ length points → kept ≡ every_second points → Due x every here (k * 2) kept × (length kept < 16)
-second_due x every here k points kept d many e = (
-  record {
-    up_to = record {
-      apart = let a = d.up_to.apart in omega (arith, a);
-      spaced = subst (λ (n : ℕ). Spaced x n 0 kept) twice (subst (λ (qs : List Point). Spaced x (k + k) 0 qs) (sym e) (spaced_second x k 0 points d.up_to.spaced));
-      few = omega (arith, half);
-      near = omega (arith, all);
-    };
-    due = ap (λ (n : ℕ). n * (k * 2)) half ∙ eight ∙ all;
-  },
-  omega (arith, half),
-)
-  where
-    sixteen : length points ≡ 8 + 8
-    sixteen = let f = d.up_to.few in omega (arith, f, many)
+-- one is dropped, and one is due at the same step
+module _ (x : Recording) (every here k w wider : ℕ) (points kept : List Point) (d : Due x every here k w points) (many : 16 ≤ length points) (one : wider ≡ suc w) (dropped : kept ≡ remove points wider) where
+  removed : kept ≡ remove points (suc w)
+  removed = dropped ∙ ap (λ (n : ℕ). remove points n) one
 
-    half : length kept ≡ 8
-    half = ap (λ (qs : List Point). length qs) e ∙ half_of 8 points sixteen
+  narrow : w < 15
+  narrow = d.up_to.some_narrow
 
-    twice : k + k ≡ k * 2
-    twice = omega arith
+  sixteen : length points ≡ 16
+  sixteen = let few = d.up_to.few in omega (arith, few, many)
 
-    eight : 8 * (k * 2) ≡ 16 * k
-    eight = omega arith
+  within : suc w < length points
+  within = let n = narrow in omega (arith, n, many)
 
-    all : 16 * k ≡ here
-    all = ap (λ (n : ℕ). n * k) (sym sixteen) ∙ d.due
+  count : length kept ≡ 15
+  count =
+      let same : length kept ≡ length (remove points (suc w)) = ap (λ (qs : List Point). length qs) removed in
+      let less = length-remove points (suc w) within in
+      let all = sixteen in
+      omega (arith, same, less, all)
+
+  spaced : Spaced x k (suc w) kept
+  spaced = subst (λ (qs : List Point). Spaced x k (suc w) qs) (sym removed) (spaced_removed x k w points within d.up_to.spaced)
+
+  far : (16 + w) * k ≡ here
+  far = let n = narrow in let all = sixteen in ap (λ (n : ℕ). n * k) (omega (arith, n, all)) ∙ d.due
+
+  near : k * 2 ≤ max every (here / 8)
+  near =
+      let all = far in
+      let split : (16 + w) * k ≡ 16 * k + w * k = grind arith in
+      omega (arith, all, split)
+
+  with_one_more : suc w < 15 → Due x every here k (suc w) kept × (length kept < 16)
+  with_one_more more =
+      let n = narrow in
+      let c = count in (
+        record {
+          up_to = record {
+            apart = d.up_to.apart;
+            spaced = spaced;
+            few = omega (arith, c);
+            some_narrow = more;
+            wide_within = omega (arith, n, c);
+            near = near;
+          };
+          due = ap (λ (n : ℕ). n * k) (omega (arith, n, c)) ∙ far;
+        },
+        omega (arith, c),
+      )
+
+  pub one_wider : wider < 15 → Due x every here k wider kept × (length kept < 16)
+  one_wider more =
+      let is = one in
+      subst (λ (n : ℕ). Due x every here k n kept × (length kept < 16)) (sym one) (with_one_more (omega (arith, is, more)))
+
+  pub all_wide : 15 ≤ wider → Due x every here (k * 2) 0 kept × (length kept < 16)
+  all_wide many_wide =
+      let n = narrow in
+      let is = one in
+      let all : 15 ≤ suc w = omega (arith, is, many_wide) in
+      let c = count in
+      let some = d.up_to.apart in (
+        record {
+          up_to = record {
+            apart = omega (arith, some);
+            spaced = spaced_doubled x k (suc w) kept (omega (arith, c, all)) spaced;
+            few = omega (arith, c);
+            some_narrow = omega arith;
+            wide_within = omega arith;
+            near = near;
+          };
+          due = ap (λ (n : ℕ). n * (k * 2)) (omega (arith, c)) ∙ thirty ∙ ap (λ (n : ℕ). n * k) (omega (arith, n, all)) ∙ far;
+        },
+        omega (arith, c),
+      )
+    where
+      thirty : 15 * (k * 2) ≡ 30 * k
+      thirty = omega arith
 
 -- where one is due, and there are not as many as are kept
-pub added : (x : Recording) (every here k : ℕ) (before points : List Point) (q : Point) → Due x every here k before → length before < 16 → WaitsAt x here q → points ≡ before ++ q ∷ [] → Fresh x every here k points
-added x every here k before points q d lt w e =
+pub added : (x : Recording) (every here k w : ℕ) (before points : List Point) (q : Point) → Due x every here k w before → length before < 16 → WaitsAt x here q → points ≡ before ++ q ∷ [] → Fresh x every here k w points
+added x every here k w before points q d lt at e =
     let count : length points ≡ suc (length before) = ap (λ (qs : List Point). length qs) e ∙ length-append before (q ∷ []) ∙ omega arith in
-    let at : length before * k ≡ 0 + length before * k = omega arith in
+    let le : w ≤ length before = d.up_to.wide_within in
     record {
       up_to = record {
         apart = d.up_to.apart;
-        spaced = subst (λ (qs : List Point). Spaced x k 0 qs) (sym e) (spaced_more x k 0 before q d.up_to.spaced (subst (λ (n : ℕ). WaitsAt x n q) (sym d.due ∙ at) w));
+        spaced = subst (λ (qs : List Point). Spaced x k w qs) (sym e) (spaced_more x k w before q d.up_to.spaced (subst (λ (n : ℕ). WaitsAt x n q) (sym d.due) at));
         few = omega (arith, count, lt);
+        some_narrow = d.up_to.some_narrow;
+        wide_within = omega (arith, count, le);
         near = d.up_to.near;
       };
       some = omega (arith, count);
-      next = ap (λ (n : ℕ). n * k) count ∙ one_more (length before) ∙ ap (λ (n : ℕ). n + k) d.due;
+      next = ap (λ (n : ℕ). n * k) (omega (arith, count, le)) ∙ one_more (place w (length before)) ∙ ap (λ (n : ℕ). n + k) d.due;
     }
   where
     one_more : (n : ℕ) → suc n * k ≡ n * k + k
     one_more n = grind arith
 
 -- a piece of the run behind the last one
-pub next_due : (x : Recording) (every here piece k : ℕ) (points : List Point) → Fresh x every here k points → piece ≡ k → Due x every (here + piece) k points
-next_due x every here piece k points f e = record {
-  up_to = record { apart = f.up_to.apart; spaced = f.up_to.spaced; few = f.up_to.few; near = near_later every k here (here + piece) (omega arith) f.up_to.near };
+pub next_due : (x : Recording) (every here piece k w : ℕ) (points : List Point) → Fresh x every here k w points → piece ≡ k → Due x every (here + piece) k w points
+next_due x every here piece k w points f e = record {
+  up_to = record {
+    apart = f.up_to.apart;
+    spaced = f.up_to.spaced;
+    few = f.up_to.few;
+    some_narrow = f.up_to.some_narrow;
+    wide_within = f.up_to.wide_within;
+    near = near_later every (widest k w) here (here + piece) (omega arith) f.up_to.near;
+  };
   due = f.next ∙ ap (λ (n : ℕ). here + n) (sym e);
 }
 
 -- the run's end, not farther behind the last one
-pub covered : (x : Recording) (every here end k : ℕ) (points : List Point) → Fresh x every here k points → here ≤ end → end ≤ here + k → Covers x every end k points
-covered x every here end k points f le near = record {
-  up_to = record { apart = f.up_to.apart; spaced = f.up_to.spaced; few = f.up_to.few; near = near_later every k here end le f.up_to.near };
+pub covered : (x : Recording) (every here end k w : ℕ) (points : List Point) → Fresh x every here k w points → here ≤ end → end ≤ here + k → Covers x every end k w points
+covered x every here end k w points f le near = record {
+  up_to = record {
+    apart = f.up_to.apart;
+    spaced = f.up_to.spaced;
+    few = f.up_to.few;
+    some_narrow = f.up_to.some_narrow;
+    wide_within = f.up_to.wide_within;
+    near = near_later every (widest k w) here end le f.up_to.near;
+  };
   some = f.some;
   reach = let n = f.next in omega (arith, n, near);
 }
 
--- a copy of the one of an index
-pub waits_near : (x : Recording) (every end k i : ℕ) (points : List Point) (q copy : Point) → Covers x every end k points → slice_get points i ≡ Some q → copy ≡ record { next = q.next; instance = copied q.instance } → WaitsAt x (i * k) copy
-waits_near x every end k i points q copy covers there same =
-    let at : 0 + i * k ≡ i * k = omega arith in
-    let w : WaitsAt x (i * k) q = subst (λ (n : ℕ). WaitsAt x n q) at (spaced_at x k 0 points i q covers.up_to.spaced there) in
-    let c : WaitsAt x (i * k) (record { next = q.next; instance = copied q.instance }) = copy_reached x (i * k) q.next FuelSpent q.instance w in
-    subst (λ (b : Point). WaitsAt x (i * k) b) (sym same) c
+-- the last one up to a step
+pub nearest : (x : Recording) (every end k w i step : ℕ) (points : List Point) (q : Point) → Covers x every end k w points → slice_get points i ≡ Some q → place w i * k ≤ step → (step ≤ place w (length points) * k → step ≤ place w i * k + widest k w) → Nearest x end step (widest k w) q
+nearest x every end k w i step points q covers there below near =
+    let at : WaitsAt x (place w i * k) q = covers.up_to.spaced i q there in
+    let made : q.instance.steps ≡ place w i * k = all_made x (place w i * k) q.next q.instance at in
+    record {
+      waits = waits_there x (place w i * k) q at;
+      below = omega (arith, made, below);
+      near = λ le.
+          let reach = covers.reach in
+          let n = near (omega (arith, reach, le)) in
+          omega (arith, made, n);
+    }

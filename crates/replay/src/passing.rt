@@ -41,11 +41,12 @@ pub(crate) fn pass<'a>(
     let mut point = Point::first(alloc, recorded)?;
     let mut track = Track {
         spacing: every,
+        wide: 0,
         points: Vec::new(alloc),
     };
     let mut made = 0;
     'pieces: loop {
-        track.keep(alloc, &point)?;
+        track.keep(&point)?;
         let piece = track.spacing.min(recorded.fuel() - made);
         let outcome = point.advance(alloc, recorded, piece)?;
         if !is_spent(&outcome) {

@@ -4,6 +4,7 @@ ghost use Rattle.std.specs.Prelude.{◌≡◌, ◌≢◌, ◌+◌, ◌<◌, ◌�
 ghost use Rattle.wasm_syntax.specs.Module.{Program, function_export};
 ghost use Rattle.wasm_syntax.specs.Machine.{Config};
 ghost use Rattle.wasm_syntax.specs.Run.{cause_of_entry};
+ghost use Rattle.machine_hosted.specs.declared.answer.RunEnd.{RunEnd as Answer};
 ghost use Rattle.wasm_machine.specs.calls.Instances.{IsNew, StandsAt, copied};
 ghost use Rattle.replay.specs.Replays.{cause_in, is_in};
 ghost use Rattle.replay.specs.Moves.{IsFault};
@@ -159,6 +160,26 @@ impl<'a> Point<'a> {
             next: self.next,
             instance,
         })
+    }
+
+    /// A copy that went on up to a step, or up to the end of the run where that comes before.
+    pub(crate) fn copy_at(
+        &self,
+        alloc: Global,
+        recorded: &Recorded<'a>,
+        step: u64,
+    ) -> Result<Point<'a>, NoMemory>
+        requires waits { WaitsAt recorded.now self.now.instance.steps self.now }
+        requires before { self.now.instance.steps ≤ step }
+        ensures reached { IfOk result
+            (λ q. (answer : Answer) × ReachedAt recorded.now step answer q) }
+        ensures since { IfOk result
+            (λ q. self.now.instance.steps + q.instance.since_copy ≤ step) }
+    {
+        let steps = step - self.instance.steps();
+        let mut copy = self.copy()?;
+        let _answer = copy.advance(alloc, recorded, steps)?;
+        Ok(copy)
     }
 
     /// Whether the innermost frame is of this function, at this code offset.

@@ -19,9 +19,9 @@ use wasm_machine::Instance;
 /// A run whose replies are there, from its first step to its last one, and the state behind one of
 /// its steps.
 ///
-/// It keeps at most 16 checkpoints. Where another one is due, every second one is dropped, and they
-/// stand twice as far apart. So a move makes at most as many steps as two checkpoints are apart at
-/// first, or an eighth of the run.
+/// It keeps at most 16 checkpoints. Where another one is due, one is dropped, from the first on, so
+/// that the gap there is twice as wide as those behind it. So a move makes at most as many steps as
+/// two checkpoints are apart at first, or an eighth of the run.
 #[derive(Drop)]
 pub struct Replayer<'a> {
     alloc: Global,
@@ -95,7 +95,9 @@ impl<'a> Replayer<'a> {
         ensures unchanged { OnErr result (self.new ≡ self.old) }
     {
         let step = step.min(self.end);
-        self.shown = self.track.point_at(self.alloc, &self.recorded, step)?;
+        self.shown = self
+            .track
+            .point_from(self.alloc, &self.recorded, &self.shown, self.step, step)?;
         self.step = step;
         Ok(step)
     }

@@ -1,25 +1,28 @@
 //! The checkpoints of a run.
 
-ghost use Rattle.std.specs.Prelude.{◌≡◌, ◌+◌, ◌*◌, ◌<◌, ◌≤◌, ◌^◌, ℕ, ◌∷◌, [], ◌++◌, Some, IfOk, OnOk, length};
+ghost use Rattle.std.specs.Prelude.{◌≡◌, ◌+◌, ◌*◌, ◌<◌, ◌≤◌, ◌^◌, ℕ, ◌∷◌, [], ◌++◌, true, Some, IfOk, OnOk, length};
 ghost use Rattle.std.specs.Prelude.{slice_get};
+ghost use Rattle.std.specs.List.{remove};
 ghost use Rattle.machine_hosted.specs.declared.answer.RunEnd.{RunEnd as Answer};
-ghost use Rattle.replay.specs.Replays.{Recording};
+ghost use Rattle.replay.specs.Replays.{Recording, IsEnd};
+ghost use Rattle.replay.specs.Moves.{OfEach};
 ghost use Rattle.replay.specs.inner.Tracks.{WaitsAt, ReachedAt, DueIn, FreshIn, CoversIn};
-ghost use Rattle.replay.specs.inner.Tracks.{every_second as every_second_of};
+ghost use Rattle.replay.specs.inner.Tracks.{place, widest, Nearest};
 
 use crate::point::Point;
 use crate::recorded::Recorded;
 use causes::NoMemory;
 use std::alloc::Global;
-use std::mem;
 
 /// The most checkpoints that are kept.
-pub(crate) const MOST: usize = 16;
+const MOST: usize = 16;
 
-/// Copies of an instance, so many steps apart, the first one at step 0.
+/// Copies of an instance, the first one at step 0. So many of the first gaps between them are two
+/// spacings wide, and all others one.
 #[derive(Drop)]
 pub(crate) struct Track<'a> {
     pub(crate) spacing: u64,
+    pub(crate) wide: usize,
     pub(crate) points: Vec<Point<'a>>,
 }
 
@@ -32,17 +35,11 @@ fn add<'a>(points: &mut Vec<Point<'a>>, point: Point<'a>) -> Result<(), NoMemory
     }
 }
 
-/// Every second point, from the first one on.
-fn every_second<'a>(alloc: Global, points: Vec<Point<'a>>) -> Result<Vec<Point<'a>>, NoMemory>
-    ensures { IfOk result (λ kept. kept.items ≡ every_second_of points.entry.items) }
+fn take_out<'a>(points: &mut Vec<Point<'a>>, index: usize)
+    requires { index < length points.old.items }
+    ensures { points.new.items ≡ remove points.old.items index }
 {
-    let mut kept = Vec::new(alloc);
-    let mut left = points.into_iter();
-    while let Some(point) = left.next() {
-        add(&mut kept, point)?;
-        let _dropped = left.next();
-    }
-    Ok(kept)
+    let _dropped = points.remove(index);
 }
 
 /// The point of an index, which is there.
@@ -53,31 +50,56 @@ fn point_of<'s, 'a>(points: &'s [Point<'a>], index: usize) -> &'s Point<'a>
     &points[index]
 }
 
+/// The last one that stands up to so many spacings, by its index.
+fn index_within(spacings: u64, wide: u64) -> u64
+    ensures below { place wide result ≤ spacings }
+    ensures last { spacings < place wide (result + 1) }
+{
+    let half = spacings / 2;
+    if half < wide { half } else { spacings - wide }
+}
+
+/// Whether the shown step is before a step, and a checkpoint not behind it.
+fn is_between(kept: u64, shown: u64, step: u64) -> bool
+    ensures behind { result ≡ true → kept ≤ shown }
+    ensures before { result ≡ true → shown < step }
+{
+    kept <= shown && shown < step
+}
+
 impl<'a> Track<'a> {
-    /// Drops every second one, and sets them twice as far apart, where there are as many as are
-    /// kept.
-    fn thin(&mut self, alloc: Global) -> Result<(), NoMemory>
-        requires { length self.old.points.items * self.old.spacing < 2 ^ 64 }
+    /// Drops the one between the first two narrow gaps, which become a wide one, where there are as
+    /// many as are kept. Where no gap is narrow any more, that is the new spacing.
+    fn thin(&mut self)
+        requires some_narrow { self.old.wide < 15 }
+        requires fits { place self.old.wide (length self.old.points.items) * self.old.spacing
+            < 2 ^ 64 }
         ensures { (x : Recording) (every here : ℕ) → DueIn x every here self.old
-            → OnOk result (DueIn x every here self.new × (length self.new.points.items < 16)) }
+            → DueIn x every here self.new × (length self.new.points.items < 16) }
     {
         if self.points.len() < MOST {
-            return Ok(());
+            return;
         }
-        let points = mem::replace(&mut self.points, Vec::new(alloc));
-        self.points = every_second(alloc, points)?;
-        self.spacing *= 2;
-        Ok(())
+        let wide = self.wide + 1;
+        take_out(&mut self.points, wide);
+        if wide < MOST - 1 {
+            self.wide = wide;
+        } else {
+            self.wide = 0;
+            self.spacing *= 2;
+        }
     }
 
-    /// Adds a checkpoint, where one is due. Where there are as many as are kept, every second one
-    /// is dropped before, and they stand twice as far apart.
-    pub(crate) fn keep(&mut self, alloc: Global, point: &Point<'a>) -> Result<(), NoMemory>
-        requires { length self.old.points.items * self.old.spacing < 2 ^ 64 }
+    /// Adds a checkpoint, where one is due. Where there are as many as are kept, one is dropped
+    /// before.
+    pub(crate) fn keep(&mut self, point: &Point<'a>) -> Result<(), NoMemory>
+        requires some_narrow { self.old.wide < 15 }
+        requires fits { place self.old.wide (length self.old.points.items) * self.old.spacing
+            < 2 ^ 64 }
         ensures { (x : Recording) (every here : ℕ) → DueIn x every here self.old
             → WaitsAt x here point.now → OnOk result (FreshIn x every here self.new) }
     {
-        self.thin(alloc)?;
+        self.thin();
         let copy = point.copy()?;
         add(&mut self.points, copy)?;
         Ok(())
@@ -88,17 +110,29 @@ impl<'a> Track<'a> {
         requires some { 1 ≤ length self.now.points.items }
         requires apart { 1 ≤ self.now.spacing }
         ensures inside { result < length self.now.points.items }
-        ensures below { result * self.now.spacing ≤ step }
-        ensures near { step ≤ length self.now.points.items * self.now.spacing
-            → step ≤ result * self.now.spacing + self.now.spacing }
+        ensures below { place self.now.wide result * self.now.spacing ≤ step }
+        ensures near { step ≤ place self.now.wide (length self.now.points.items) * self.now.spacing
+            → step ≤ place self.now.wide result * self.now.spacing
+            + widest self.now.spacing self.now.wide }
     {
         let last = self.points.len() - 1;
-        let index = step / self.spacing;
+        let index = index_within(step / self.spacing, self.wide as u64);
         if index < last as u64 {
             index as usize
         } else {
             last
         }
+    }
+
+    /// The last checkpoint up to a step.
+    fn before(&self, step: u64) -> &Point<'a>
+        requires some { 1 ≤ length self.now.points.items }
+        requires apart { 1 ≤ self.now.spacing }
+        ensures { (x : Recording) (every end : ℕ) → CoversIn x every end self.now
+            → Nearest x end step (widest self.now.spacing self.now.wide) result.now }
+    {
+        let index = self.index(step);
+        point_of(&self.points, index)
     }
 
     /// The point behind so many steps, up to the end of the run.
@@ -112,13 +146,39 @@ impl<'a> Track<'a> {
             × (step ≤ end) }
         ensures reached { IfOk result
             (λ q. (answer : Answer) × ReachedAt recorded.now step answer q) }
-        ensures near { IfOk result (λ q. q.instance.since_copy ≤ self.now.spacing) }
+        ensures near { IfOk result
+            (λ q. q.instance.since_copy ≤ widest self.now.spacing self.now.wide) }
     {
-        let index = self.index(step);
-        let kept = point_of(&self.points, index);
-        let mut point = kept.copy()?;
-        let steps = step - index as u64 * self.spacing;
-        let _answer = point.advance(alloc, recorded, steps)?;
+        let kept = self.before(step);
+        let point = kept.copy_at(alloc, recorded, step)?;
+        Ok(point)
+    }
+
+    /// The same, where the point behind another step is shown. It is gone on from there, where no
+    /// checkpoint is nearer.
+    pub(crate) fn point_from(
+        &self,
+        alloc: Global,
+        recorded: &Recorded<'a>,
+        shown: &Point<'a>,
+        from: u64,
+        step: u64,
+    ) -> Result<Point<'a>, NoMemory>
+        requires covers { (every : ℕ) × (end : ℕ) × CoversIn recorded.now every end self.now
+            × (step ≤ end) × OfEach recorded.now (λ p. IsEnd p recorded.now end) }
+        requires stands { (answer : Answer) × ReachedAt recorded.now from answer shown.now }
+        ensures reached { IfOk result
+            (λ q. (answer : Answer) × ReachedAt recorded.now step answer q) }
+        ensures near { IfOk result
+            (λ q. q.instance.since_copy ≤ widest self.now.spacing self.now.wide) }
+    {
+        let kept = self.before(step);
+        let made = kept.instance.steps();
+        if is_between(made, from, step) {
+            let point = shown.copy_at(alloc, recorded, step)?;
+            return Ok(point);
+        }
+        let point = self.point_at(alloc, recorded, step)?;
         Ok(point)
     }
 }

@@ -1,5 +1,5 @@
 -- The checkpoints of a run.
-use Rattle.std.specs.Prelude.{◌≡◌, ℕ, ◌+◌, ◌*◌, ◌/◌, ◌≤◌, max, List, [], ◌∷◌, length, Option, Some, None, Result, Ok, Err}
+use Rattle.std.specs.Prelude.{◌≡◌, ℕ, zero, suc, ◌+◌, ◌*◌, ◌/◌, ◌<◌, ◌≤◌, min, max, List, length, slice_get, Option, Some, None, Result, Ok, Err}
 use Rattle.machine_hosted.specs.declared.answer.RunEnd.{RunEnd}
 use Rattle.replay.specs.declared.fault.StartRefusal.{StartRefusal}
 use Rattle.replay.specs.declared.passing.Passed.{Passed}
@@ -23,49 +23,58 @@ Begun (Err fault) x = IsFault fault x
 
 -- ---- checkpoints
 
--- points so far apart, the first one at this step
-abbrev pub Spaced : Recording → (spacing from : ℕ) → List Point → Type 0
-Spaced x spacing from [] = Unit {0}
-Spaced x spacing from (q ∷ qs) = WaitsAt x from q × Spaced x spacing (from + spacing) qs
+-- where one stands, in spacings: so many of the first gaps are two spacings wide, and all others one
+abbrev pub place : (wide index : ℕ) → ℕ
+place wide index = index + min index wide
 
--- every second one, from the first on
-unfoldable pub every_second : {A : Type 0} → List A → List A
-every_second [] = []
-every_second (a ∷ []) = a ∷ []
-every_second (a ∷ b ∷ more) = a ∷ every_second more
+abbrev pub Spaced : Recording → (spacing wide : ℕ) → List Point → Type 0
+Spaced x spacing wide points = (i : ℕ) (q : Point) → slice_get points i ≡ Some q → WaitsAt x (place wide i * spacing) q
 
--- Checkpoints on the way to here. They are as far apart as asked for, or no farther than an eighth of the steps up to here.
-pub record UpTo (x : Recording) (every here spacing : ℕ) (points : List Point) : Type 0 where
+-- no gap is wider
+abbrev pub widest : (spacing wide : ℕ) → ℕ
+widest spacing zero = spacing
+widest spacing (suc n) = spacing * 2
+
+-- Checkpoints on the way to here, of which at least one gap is narrow. No gap is wider than asked for, or than an eighth of the steps up to here.
+pub record UpTo (x : Recording) (every here spacing wide : ℕ) (points : List Point) : Type 0 where
   pub apart : 1 ≤ spacing
-  pub spaced : Spaced x spacing 0 points
+  pub spaced : Spaced x spacing wide points
   pub few : length points ≤ 16
-  pub near : spacing ≤ max every (here / 8)
+  pub some_narrow : wide < 15
+  pub wide_within : wide ≤ length points
+  pub near : widest spacing wide ≤ max every (here / 8)
 
 -- The next one is due here.
-pub record Due (x : Recording) (every here spacing : ℕ) (points : List Point) : Type 0 where
-  pub up_to : UpTo x every here spacing points
-  pub due : length points * spacing ≡ here
+pub record Due (x : Recording) (every here spacing wide : ℕ) (points : List Point) : Type 0 where
+  pub up_to : UpTo x every here spacing wide points
+  pub due : place wide (length points) * spacing ≡ here
 
 -- The last one is here.
-pub record Fresh (x : Recording) (every here spacing : ℕ) (points : List Point) : Type 0 where
-  pub up_to : UpTo x every here spacing points
+pub record Fresh (x : Recording) (every here spacing wide : ℕ) (points : List Point) : Type 0 where
+  pub up_to : UpTo x every here spacing wide points
   pub some : 1 ≤ length points
-  pub next : length points * spacing ≡ here + spacing
+  pub next : place wide (length points) * spacing ≡ here + spacing
 
--- Here is no farther behind the last one than that is behind the one before.
-pub record Covers (x : Recording) (every here spacing : ℕ) (points : List Point) : Type 0 where
-  pub up_to : UpTo x every here spacing points
+-- Here is no farther behind the last one than the next one would be.
+pub record Covers (x : Recording) (every here spacing wide : ℕ) (points : List Point) : Type 0 where
+  pub up_to : UpTo x every here spacing wide points
   pub some : 1 ≤ length points
-  pub reach : here ≤ length points * spacing
+  pub reach : here ≤ place wide (length points) * spacing
+
+-- A step up to the end is no farther behind this one than the next one is.
+pub record Nearest (x : Recording) (end step gap : ℕ) (q : Point) : Type 0 where
+  pub waits : WaitsAt x q.instance.steps q
+  pub below : q.instance.steps ≤ step
+  pub near : step ≤ end → step ≤ q.instance.steps + gap
 
 abbrev pub DueIn : Recording → (every here : ℕ) → Track → Type 0
-DueIn x every here t = Due x every here t.spacing t.points.items
+DueIn x every here t = Due x every here t.spacing t.wide t.points.items
 
 abbrev pub FreshIn : Recording → (every here : ℕ) → Track → Type 0
-FreshIn x every here t = Fresh x every here t.spacing t.points.items
+FreshIn x every here t = Fresh x every here t.spacing t.wide t.points.items
 
 abbrev pub CoversIn : Recording → (every here : ℕ) → Track → Type 0
-CoversIn x every here t = Covers x every here t.spacing t.points.items
+CoversIn x every here t = Covers x every here t.spacing t.wide t.points.items
 
 -- ---- the whole run
 

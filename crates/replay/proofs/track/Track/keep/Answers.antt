@@ -4,6 +4,6 @@ use Rattle.replay.proofs.track.Track.keep.Goals as goal
 
 pub returns : goal.returns
 returns c = λ x every here d w.
-    let due = c.in_ok-thin.ensures x every here d in
+    let due = c.thin.ensures x every here d in
     let t = c.thin.new.self in
-    added x every here t.spacing t.points.items c.add.new.points.items c.in_ok-copy.copy due.0 due.1 (copy_stands x here FuelSpent c.args.point.now c.in_ok-copy.copy w c.in_ok-copy.ensures.same) c.in_ok-add.ensures
+    added x every here t.spacing t.wide t.points.items c.add.new.points.items c.in_ok-copy.copy due.0 due.1 (copy_stands x here FuelSpent c.args.point.now c.in_ok-copy.copy w c.in_ok-copy.ensures.same) c.in_ok-add.ensures
