@@ -83,7 +83,7 @@ fn judged(
     ensures value { IfOk result (answers.DumpAnswer commands.now bytes.now m.now dump.now) }
     ensures ended { IfOk result (Ended (λ _. ⊥)) }
 {
-    match matches(m, dump) {
+    match matches(alloc, m, dump) {
         Ok(matched) => told(alloc, bytes, matched, commands),
         Err(row) => mismatched(alloc, row),
     }

@@ -1,6 +1,8 @@
 //! The tests of each frame of a dump.
 
 ghost use Rattle.std.specs.Prelude.{◌≡◌, ◌<◌, ◌≤◌, ◌^◌, ℕ, List, length};
+ghost use Rattle.std.specs.Ordering.{nat_cmp};
+ghost use Rattle.std.specs.BTreeMap.{get};
 ghost use Rattle.wasm_syntax.specs.declared.module.ModuleParts.{ModuleParts as Module};
 ghost use Rattle.wasm_syntax.specs.Sizes.{WithinLimits};
 ghost use Rattle.wasm_syntax.specs.Tree.{item_of};
@@ -9,13 +11,16 @@ ghost use Rattle.dump_match.specs.Frames.{FunctionFits, LocalsFit, OperandsFit, 
 ghost use Rattle.dump_match.specs.States.{StateOperandCount};
 ghost use Rattle.wasm_validate.specs.calls.Deciding.{Decides};
 ghost use Rattle.dump_match.specs.inner.Decides.{FrameJudged, FramesJudged};
+ghost use Rattle.dump_match.specs.inner.Kept.{KeepsGroups};
 ghost use Rattle.dump_match.specs.inner.Stands.{Stands, OperandsAre, count_shown};
 
 use crate::code::{can_call, is_call, taken};
+use crate::kept::{KeptGroups, can_be_locals_of, kept_groups};
 use crate::mismatch::Mismatch;
 use crate::stand::{Stand, stand_of};
-use crate::values::{can_be_locals, has_type};
+use crate::values::has_type;
 use dump_format::{Dump, Frame};
+use std::alloc::Global;
 use wasm_syntax::{ModuleParts, Seen};
 use wasm_validate::Validated;
 
@@ -30,19 +35,16 @@ fn is_defined(m: &Validated, frame: &Frame) -> bool
 }
 
 /// Whether the recorded locals have their types.
-pub fn locals_fit(m: &ModuleParts, frame: &Frame) -> bool
-    requires { FunctionFits m.now frame.now }
+pub fn locals_fit(m: &ModuleParts, kept: &KeptGroups, frame: &Frame) -> bool
+    requires fits { FunctionFits m.now frame.now }
+    requires kept { KeepsGroups m.now (get nat_cmp kept.now) }
     ensures { Decides result (LocalsFit m.now frame.now) }
 {
     match (
         m.type_of(frame.function as usize),
         m.body_of(frame.function),
     ) {
-        (Some(ftype), Some(body)) => can_be_locals(
-            ftype.params.as_slice(),
-            body.groups.as_slice(),
-            frame.locals.as_slice(),
-        ),
+        (Some(ftype), Some(body)) => can_be_locals_of(kept, ftype, body, frame),
         _ => false,
     }
 }
@@ -123,8 +125,14 @@ fn callee_fits(m: &ModuleParts, frames: &[Frame], stand: Stand, i: u32) -> bool
 }
 
 /// The tests of a frame.
-pub fn judge_frame(m: &Validated, dump: &Dump<'_>, i: u32) -> Result<(), Mismatch>
-    requires { i < length dump.now.frames }
+pub fn judge_frame(
+    m: &Validated,
+    kept: &KeptGroups,
+    dump: &Dump<'_>,
+    i: u32,
+) -> Result<(), Mismatch>
+    requires there { i < length dump.now.frames }
+    requires kept { KeepsGroups m.now (get nat_cmp kept.now) }
     ensures { FrameJudged result m.now dump.now i }
 {
     let parts = m.module().parts();
@@ -136,7 +144,7 @@ pub fn judge_frame(m: &Validated, dump: &Dump<'_>, i: u32) -> Result<(), Mismatc
     let Some(stand) = stand_of(m, frame) else {
         return Err(Mismatch::Offset { frame: i });
     };
-    if !locals_fit(parts, frame) {
+    if !locals_fit(parts, kept, frame) {
         return Err(Mismatch::Locals { frame: i });
     }
     if !operands_fit(m, frame, stand, i) {
@@ -151,13 +159,23 @@ pub fn judge_frame(m: &Validated, dump: &Dump<'_>, i: u32) -> Result<(), Mismatc
     Ok(())
 }
 
-/// The tests of all frames, the innermost first.
-pub fn judge_frames(m: &Validated, dump: &Dump<'_>) -> Result<(), Mismatch>
-    requires { length dump.now.frames < 2 ^ 32 }
+/// The tests of all frames, the innermost first, with the groups that are kept.
+fn judge_each(m: &Validated, kept: &KeptGroups, dump: &Dump<'_>) -> Result<(), Mismatch>
+    requires frames { length dump.now.frames < 2 ^ 32 }
+    requires kept { KeepsGroups m.now (get nat_cmp kept.now) }
     ensures { FramesJudged result m.now dump.now }
 {
     for i in 0..dump.frames.len() {
-        judge_frame(m, dump, i as u32)?;
+        judge_frame(m, kept, dump, i as u32)?;
     }
     Ok(())
+}
+
+/// The tests of all frames, the innermost first.
+pub fn judge_frames(alloc: Global, m: &Validated, dump: &Dump<'_>) -> Result<(), Mismatch>
+    requires { length dump.now.frames < 2 ^ 32 }
+    ensures { FramesJudged result m.now dump.now }
+{
+    let kept = kept_groups(alloc, m, dump.frames.as_slice());
+    judge_each(m, &kept, dump)
 }

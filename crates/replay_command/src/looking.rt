@@ -74,12 +74,16 @@ fn push_looks<'c>(
 }
 
 /// A module with the dump of one of its states.
-fn matched<'m, 'd, 'b>(source: &'m Validated, dump: &'d Dump<'b>) -> StateMatched<'m, 'd, 'b>
+fn matched<'m, 'd, 'b>(
+    alloc: Global,
+    source: &'m Validated,
+    dump: &'d Dump<'b>,
+) -> StateMatched<'m, 'd, 'b>
     requires { KeptState source.now dump.now }
     ensures module_ { result.module_ ≡ source.now }
     ensures dump { result.dump ≡ dump.now }
 {
-    match matches_state(source, dump) {
+    match matches_state(alloc, source, dump) {
         Ok(matched) => matched,
         Err(_) => unreachable!(),
     }
@@ -142,7 +146,7 @@ impl<'a> Viewer<'a> {
         ensures shorter { IfOk result (λ rest. IsShorter rest commands.now) }
     {
         let dump = shown_dump(alloc, self.source, replayer)?;
-        let matched = matched(self.source, &dump);
+        let matched = matched(alloc, self.source, &dump);
         let known = self.known.take();
         let mut session = Session::on_state(alloc, self.bytes, known, matched, self.chosen)?;
         let rest = push_looks(out, alloc, &mut session, commands)?;

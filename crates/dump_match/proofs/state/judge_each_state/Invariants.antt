@@ -1,5 +1,5 @@
 use Rattle.dump_match.specs.inner.Decides.{StateUpTo}
-use Rattle.dump_match.proofs.state.judge_state_frames.Given as goal
+use Rattle.dump_match.proofs.state.judge_each_state.Given as goal
 
 abbrev pub invariant-loop-i : goal.invariant-loop-i
 invariant-loop-i l = StateUpTo l.m l.dump l.i
