@@ -7,8 +7,8 @@ use Rattle.dwarf_line.specs.declared.lines.Sequence.{Sequence}
 use Rattle.dwarf_line.specs.Place.{holds}
 use Rattle.dwarf_line.specs.calls.Held.{held, is_held}
 use Rattle.dwarf_line.proofs.HeldLaws.{holds_held}
-use Rattle.debug_frames.specs.declared.hull.Hull.{Hull}
-use Rattle.debug_frames.specs.inner.Hulls.{widened, hull_from, is_inside}
+use Rattle.dwarf_line.specs.declared.hull.Hull.{Hull}
+use Rattle.dwarf_line.specs.calls.Hulls.{widened, hull_from, is_inside}
 
 -- ---- the lesser and the greater of two numbers
 

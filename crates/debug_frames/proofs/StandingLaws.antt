@@ -1,6 +1,6 @@
 -- The line program that the unit of an entry names is kept.
 use Rattle.std.proofs.Common.{◌≡◌, ℕ, suc, ◌<◌, Bool, true, false, List, [], ◌∷◌, ◌++◌, Option, Some, None, refl, sym, ap, subst, ◌∙◌, arith}
-use Rattle.std.specs.Prelude.{fold, length, get_or, ◌==◌, find, filter, reverse, flat_map, is_some, nat_eq, if◌then◌else◌, cond, IfSome}
+use Rattle.std.specs.Prelude.{fold, length, get_or, ◌==◌, find, filter, reverse, is_some, nat_eq, if◌then◌else◌, cond, IfSome}
 use Rattle.std.specs.List.{All, AllByRecursion}
 use Rattle.std.proofs.lemmas.List.{reverse-append}
 use Rattle.std.proofs.lemmas.List.Elements.{All-from_recursion, All-nil, All-cons, All-append, All-filter, All-push, All-get_or}

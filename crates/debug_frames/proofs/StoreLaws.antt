@@ -7,27 +7,29 @@ use Rattle.std.proofs.lemmas.Bool.{eqb-true, or_parts}
 use Rattle.std.proofs.lemmas.Option.{same_Some}
 use Rattle.std.proofs.lemmas.List.Elements.{All-from_recursion, All-get_or}
 use Rattle.dwarf_info.specs.Sections.{SectionBytes5}
+use Rattle.dwarf_line.specs.declared.hull.Hull.{Hull}
 use Rattle.dwarf_line.specs.declared.lines.Lines.{Lines}
 use Rattle.dwarf_line.specs.declared.lines.Row.{Row}
+use Rattle.dwarf_line.specs.Program.{lines_at}
 use Rattle.dwarf_line.specs.Place.{Located, place}
+use Rattle.dwarf_line.specs.calls.Hulls.{no_hull, hull_if, is_inside}
 use Rattle.dwarf_line.proofs.HeldLaws.{is_placed}
+use Rattle.dwarf5_line.specs.Layout5.{texts_of, layout5}
 use Rattle.dwarf_scopes.specs.Ranges.{is_between}
 use Rattle.dwarf_scopes.specs.calls.Numbered.{ranges_from, is_within}
 use Rattle.dwarf_scopes.specs.calls.Steps.{Answer, answer}
 use Rattle.dwarf_scopes.specs.declared.steps.Step.{Step}
 use Rattle.dwarf_scopes.proofs.NumberLaws.{first_numbered}
-use Rattle.debug_frames.specs.declared.hull.Hull.{Hull}
 use Rattle.debug_frames.specs.declared.programs.Program.{Program}
 use Rattle.debug_frames.specs.declared.programs.Program.TheVariants.{Read, Unreadable}
 use Rattle.debug_frames.specs.declared.rows.RowPlace.{RowPlace}
 use Rattle.debug_frames.specs.declared.stored.Stored.{Stored}
 use Rattle.debug_frames.specs.declared.stored.Stored.TheVariants.{Whole, Bounded}
 use Rattle.debug_frames.specs.declared.stored.Stored.TheVariants as stored
-use Rattle.debug_frames.specs.Programs.{program_there, located, located_in}
+use Rattle.debug_frames.specs.Programs.{program_of, program_there, located, located_in}
 use Rattle.debug_frames.specs.calls.Kept.{program_at, located_among}
-use Rattle.debug_frames.specs.inner.Hulls.{no_hull, hull_in, is_inside}
 use Rattle.debug_frames.specs.inner.Paths.{row_place, path_in, path_in_program}
-use Rattle.debug_frames.specs.inner.Stores.{Serves, IsStored, AreStored, seen, Shows, is_read, can_be_read, claims_of, claims_in, places_among}
+use Rattle.debug_frames.specs.inner.Stores.{hull_in, Serves, IsStored, AreStored, seen, Shows, is_read, can_be_read, claims_of, claims_in, places_among}
 use Rattle.debug_frames.proofs.HullLaws.{none_outside}
 use Rattle.debug_frames.proofs.PlacingLaws.{held_placed}
 use Rattle.debug_frames.proofs.Kept.{flipped, none_there}
@@ -40,6 +42,19 @@ whole_place p lines a e = ap (λ (q : Program). option_map row_place (located_in
 
 pub unreadable_place : (p : Program) (a : ℕ) → p ≡ Unreadable → ◌≡◌ {A = Option RowPlace} None (option_map row_place (located_in p a))
 unreadable_place p a e = ap (λ (q : Program). option_map row_place (located_in q a)) (sym e)
+
+-- what bounds are kept of
+pub unread_bounds : (p : Program) → hull_in p ≡ None → p ≡ Unreadable
+unread_bounds Unreadable e = refl
+unread_bounds (Read lines) e = absurd cc
+
+bounds_there : (o : Option Lines) → hull_in (program_of o) ≡ hull_if o
+bounds_there None = refl
+bounds_there (Some lines) = refl
+
+pub scanned : (s : SectionBytes5) (at : ℕ) (section : List ℕ) (b : Option Hull) → section ≡ s.base.line → b ≡ hull_if (lines_at (layout5 (texts_of s)) section at) → hull_in (program_there s at) ≡ b
+scanned s at section b same e =
+    bounds_there (lines_at (layout5 (texts_of s)) s.base.line at) ∙ ap (λ (l : List ℕ). hull_if (lines_at (layout5 (texts_of s)) l at)) (sym same) ∙ sym e
 
 -- Outside of its bounds a program has no row.
 pub outside_place : (p : Program) (h : Hull) (a : ℕ) → hull_in p ≡ Some h → is_inside h a ≡ false → located_in p a ≡ None

@@ -3,7 +3,6 @@ use Rattle.std.proofs.Common.{◌≡◌, ℕ, Bool, true, false, List, [], ◌�
 use Rattle.std.specs.Prelude.{fold, is_some, nat_eq, if◌then◌else◌}
 use Rattle.std.specs.Option.{option_or}
 use Rattle.std.specs.List.{AllByRecursion}
-use Rattle.std.specs.Map.{lookup}
 use Rattle.dwarf_info.specs.declared.entry.UnitAnswer.{UnitAnswer}
 use Rattle.dwarf_info.specs.Sections.{SectionBytes5}
 use Rattle.dwarf_info.proofs.FindLaws.{or_none, or_or}

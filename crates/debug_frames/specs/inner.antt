@@ -1,6 +1,5 @@
 pub mod Resolving
 pub mod Standings
 pub mod Placing
-pub mod Hulls
 pub mod Paths
 pub mod Stores

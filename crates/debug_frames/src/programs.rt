@@ -13,7 +13,7 @@ ghost use Rattle.debug_frames.specs.inner.Stores.{AreStored, seen, claims_in, pl
 
 use crate::files::Path;
 use crate::rows::RowPlace;
-use crate::stored::{Stored, push_claims, store, stored_path, stored_place};
+use crate::stored::{Room, Stored, push_claims, store, stored_path, stored_place};
 use causes::NoMemory;
 use dwarf_bytes::ReadFault;
 use dwarf_entries::names::STMT_LIST;
@@ -125,16 +125,18 @@ fn add<'a>(
     alloc: Global,
     sections: &PreparedSections<'a>,
     at: Option<u32>,
-    room: &mut usize,
+    room: &mut Room<'a>,
     programs: &mut Items<(u32, Stored<'a>)>,
     places: &mut BTreeMap<u32, usize>,
 ) -> Result<(), NoMemory>
+    requires room { room.old.scans ≡ sections.now.base.line }
     requires placed { IsPlaced (λ x. x.0) programs.old (get nat_cmp places.old) }
     requires stored { AreStored sections.now programs.old }
     ensures value { OnOk result (seen sections.now programs.new
         ≡ kept.with_program sections.now (seen sections.now programs.old) at) }
     ensures placed { OnOk result (IsPlaced (λ x. x.0) programs.new (get nat_cmp places.new)) }
     ensures stored { OnOk result (AreStored sections.now programs.new) }
+    ensures room { room.new.scans ≡ room.old.scans }
 {
     let Some(at) = at else {
         return Ok(());
@@ -148,8 +150,8 @@ fn add<'a>(
     Ok(())
 }
 
-/// Reads the programs that units name, each once. All that is kept of them is never more than
-/// programs of bytes of their own could say.
+/// Reads the programs that units name, each once. Those that are kept whole never have more bytes
+/// than programs of bytes of their own could have.
 fn add_all<'a>(
     alloc: Global,
     sections: &PreparedSections<'a>,
@@ -165,7 +167,7 @@ fn add_all<'a>(
     ensures placed { OnOk result (IsPlaced (λ x. x.0) programs.new (get nat_cmp places.new)) }
     ensures stored { OnOk result (AreStored sections.now programs.new) }
 {
-    let mut room = sections.sections().base.line.len();
+    let mut room = Room::new(alloc, sections);
     for answer in units {
         let at = named(answer);
         add(alloc, sections, at, &mut room, programs, places)?;

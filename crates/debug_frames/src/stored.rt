@@ -1,26 +1,28 @@
 //! What is kept of line programs. Each may be in the bytes of others, so that all that they say
-//! together has no bound in the bytes. So it is kept as long as it is no more than programs of
-//! bytes of their own could say; of others their bounds are kept, and they are run again.
+//! together has no bound in the bytes. So they are kept whole as long as they have no more bytes
+//! than programs of bytes of their own could have; others are scanned for their bounds, which are
+//! kept, and they are run where these hold an address.
 
 ghost use Rattle.std.specs.Prelude.{◌≡◌, ◌++◌, ◌∷◌, [], pos, Some, option_map, flat_map, IfOk, OnOk};
 ghost use Rattle.dwarf_scopes.specs.calls.Numbered.{with_number};
-ghost use Rattle.debug_frames.specs.declared.programs.Program.TheVariants.{Read};
+ghost use Rattle.debug_frames.specs.declared.programs.Program.{Program as ProgramThere};
 ghost use Rattle.debug_frames.specs.Programs.{program_there, located_in};
-ghost use Rattle.debug_frames.specs.inner.Hulls.{hull_in};
 ghost use Rattle.debug_frames.specs.inner.Paths.{row_place, path_in_program};
 ghost use Rattle.debug_frames.specs.inner.Placing.{held_by};
-ghost use Rattle.debug_frames.specs.inner.Stores.{Serves, can_be_read, claims_of};
+ghost use Rattle.debug_frames.specs.inner.Stores.{hull_in, Serves, can_be_read, claims_of};
 
 use crate::files::{Path, path_in};
 use crate::held::{Held, push_held};
-use crate::hull::{Hull, hull_of};
 use crate::programs::{Program, program_there};
 use crate::rows::{RowPlace, path_in_program, place_held, place_in_program};
 use causes::NoMemory;
+use dwarf_bytes::open_unit;
 use dwarf_info::PreparedSections;
-use dwarf_line::Lines;
+use dwarf_line::{Hull, Lines, Scans};
 use dwarf_scopes::Range;
+use dwarf5_line::{scan_lines5, scans5};
 use std::alloc::Global;
+use wasm_bytes::Reader;
 
 /// What is kept of what stands at an offset of `.debug_line`.
 #[derive(Drop)]
@@ -45,56 +47,86 @@ impl Stored<'_> {
     }
 }
 
-/// How many bytes a program has at least that says so much.
-fn weight_of(lines: &Lines<'_>) -> usize {
-    let mut weight = lines.files.len().saturating_add(lines.directories.len());
-    for sequence in lines.sequences.as_slice() {
-        weight = weight.saturating_add(3).saturating_add(sequence.rows.len());
-    }
-    weight
+/// How many bytes more of programs are kept whole, and what scans of the others found.
+#[derive(Drop)]
+pub(crate) struct Room<'a> {
+    left: usize,
+    scans: Scans<'a>,
 }
 
-/// All that a program says, where there is room for it.
-fn fitted<'a>(alloc: Global, lines: Lines<'a>, room: &mut usize) -> Result<Stored<'a>, NoMemory>
-    ensures { IfOk result (Serves (Read lines.entry)) }
-{
-    let weight = weight_of(&lines);
-    if weight > *room {
-        return Ok(Stored::Bounded(hull_of(lines.sequences.as_slice())));
+impl<'a> Room<'a> {
+    /// As many bytes as all programs have.
+    pub(crate) fn new(alloc: Global, sections: &PreparedSections<'a>) -> Self
+        ensures { result.scans ≡ sections.now.base.line }
+    {
+        let left = sections.sections().base.line.len();
+        let scans = scans5(alloc, sections);
+        Room { left, scans }
     }
-    *room -= weight;
-    let held = Held::new(alloc, lines)?;
-    Ok(Stored::Whole(held))
 }
 
-fn kept_of<'a>(
-    alloc: Global,
-    program: Program<'a>,
-    room: &mut usize,
-) -> Result<Stored<'a>, NoMemory>
+/// How many bytes the program at an offset has, or 0 where none begins there.
+fn size_at(section: &[u8], at: usize) -> usize {
+    if at > section.len() {
+        return 0;
+    }
+    match open_unit(&mut Reader::starting_at(section, at)) {
+        Ok(inner) => inner.end_at().saturating_sub(at),
+        Err(_) => 0,
+    }
+}
+
+/// Takes the bytes of the program at an offset off the room, where it has so many.
+fn fits(section: &[u8], at: usize, left: &mut usize) -> bool {
+    let size = size_at(section, at);
+    if size > *left {
+        return false;
+    }
+    *left -= size;
+    true
+}
+
+fn whole<'a>(alloc: Global, program: Program<'a>) -> Result<Stored<'a>, NoMemory>
     ensures { IfOk result (Serves program.entry) }
 {
     match program {
         Program::Read(lines) => {
-            let stored = fitted(alloc, lines, room)?;
-            Ok(stored)
+            let held = Held::new(alloc, lines)?;
+            Ok(Stored::Whole(held))
         }
         Program::Unreadable => Ok(Stored::Unreadable),
     }
 }
 
-/// What is kept of what stands at an offset, where there is so much room left.
+/// What is kept of a program of these bounds, if it can be read.
+#[tactic(auto, using(crate::proofs::StoreLaws::unread_bounds))]
+fn bounded<'a>(bounds: Option<Hull>) -> Stored<'a>
+    ensures { (program : ProgramThere) → hull_in program ≡ bounds → Serves program result }
+{
+    match bounds {
+        Some(hull) => Stored::Bounded(hull),
+        None => Stored::Unreadable,
+    }
+}
+
+/// What is kept of what stands at an offset: all of it, where there is so much room left.
 pub(crate) fn store<'a>(
     alloc: Global,
     sections: &PreparedSections<'a>,
     at: u32,
-    room: &mut usize,
+    room: &mut Room<'a>,
 ) -> Result<Stored<'a>, NoMemory>
-    ensures { IfOk result (Serves (program_there sections.now at)) }
+    requires { room.old.scans ≡ sections.now.base.line }
+    ensures stored { IfOk result (Serves (program_there sections.now at)) }
+    ensures same { room.new.scans ≡ room.old.scans }
 {
-    let program = program_there(alloc, sections, at)?;
-    let stored = kept_of(alloc, program, room)?;
-    Ok(stored)
+    if fits(sections.sections().base.line, at as usize, &mut room.left) {
+        let program = program_there(alloc, sections, at)?;
+        let stored = whole(alloc, program)?;
+        return Ok(stored);
+    }
+    let bounds = scan_lines5(alloc, sections, at as usize, &mut room.scans)?;
+    Ok(bounded(bounds))
 }
 
 // ---- the addresses that it may hold

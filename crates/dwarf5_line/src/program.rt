@@ -1,18 +1,20 @@
 //! Reading line programs of versions 2 to 5 (DWARF 5 section 6.2.4).
 
-ghost use Rattle.std.specs.Prelude.{◌≡◌, OnOk};
+ghost use Rattle.std.specs.Prelude.{◌≡◌, IfOk, OnOk};
 ghost use Rattle.wasm_bytes.specs.Place.{Stays};
 ghost use Rattle.wasm_bytes.specs.calls.Answers.{Gives};
 ghost use Rattle.dwarf_bytes.specs.calls.Answers.{ReadsThere};
 ghost use Rattle.dwarf_line.specs.Header.{header_item};
 ghost use Rattle.dwarf_line.specs.Program.{lines_at};
+ghost use Rattle.dwarf_line.specs.calls.Hulls.{hull_if};
 ghost use Rattle.dwarf_line.specs.calls.Standing.{IsWhatStands};
 ghost use Rattle.dwarf5_line.specs.Layout5.{texts_of, new_layout, layout5, lines5};
 
 use crate::entries::read_tables;
+use causes::NoMemory;
 use dwarf_bytes::{ReadFault, byte, open_counted};
 use dwarf_info::{PreparedSections, Sections5};
-use dwarf_line::{Header, Lines, Versions, old_header, read_parameters, read_program};
+use dwarf_line::{Header, Hull, Lines, Scans, Versions, old_header, read_parameters, read_program};
 use std::alloc::Global;
 use wasm_bytes::{ItemFault, Reader};
 
@@ -107,6 +109,33 @@ pub fn read_prepared_lines5<'a>(
 {
     let section = programs(sections);
     read_at(alloc, sections, section, at)
+}
+
+/// Scans of the programs in `.debug_line`, none of which was made yet.
+pub fn scans5<'a>(alloc: Global, sections: &PreparedSections<'a>) -> Scans<'a>
+    ensures { result ≡ sections.now.base.line }
+{
+    Scans::new(alloc, programs(sections))
+}
+
+/// The bounds of all addresses that the program of version 2, 3, 4 or 5 at an offset holds; None
+/// where no program that has a reading stands there. No rows are made.
+///
+/// # Errors
+///
+/// `NoMemory` where memory runs out.
+pub fn scan_lines5<'a>(
+    alloc: Global,
+    sections: &PreparedSections<'a>,
+    at: usize,
+    scans: &mut Scans<'a>,
+) -> Result<Option<Hull>, NoMemory>
+    ensures bounds { IfOk result (λ bounds. bounds
+        ≡ hull_if (lines_at (layout5 (texts_of sections.now)) scans.old at)) }
+    ensures same { scans.new ≡ scans.old }
+{
+    let bounds = scans.bounds(alloc, &UpToFive { sections }, at)?;
+    Ok(bounds)
 }
 
 /// What the line program of version 2, 3, 4 or 5 at an offset of `.debug_line` says.

@@ -8,3 +8,5 @@ pub mod HalvingLaws
 pub mod StartLaws
 pub mod HeldLaws
 pub mod OrderLaws
+pub mod OutlineLaws
+pub mod ScanLaws

@@ -16,7 +16,7 @@ use Rattle.std.proofs.lemmas.Option.{slice_get-get_or, slice_get_within}
 use Rattle.dwarf_line.specs.declared.lines.Row.{Row}
 use Rattle.dwarf_line.specs.Place.{IsNearest, greater, nearest}
 use Rattle.dwarf_line.specs.Rows.{first_registers}
-use Rattle.dwarf_line.specs.inner.Order.{address_if, address_at, numbers_from, place_at, by_place, IsOrder}
+use Rattle.dwarf_line.specs.inner.Order.{address_if, address_at, numbers_from, place_at, by_place, IsOrder, Serves}
 use Rattle.dwarf_line.proofs.HalvingLaws.{IsPoint}
 use Rattle.dwarf_line.proofs.PlaceLaws.{filter_out, in_front, nearest_is_computed, reached}
 
@@ -151,3 +151,7 @@ nearest_in_order a rows order i d o point inside =
     subst (λ n. NotPast r.address j n k) (address_there rows k row there)
     (subst (λ n. NotPast n j (address_at rows k) k) (address_there rows j r at) (best_in_order a rows order i d o point inside j (slice_get_within rows j r at) (subst (λ n. n ≤ a) (sym (address_there rows j r at)) low))) in
     nearest_is_computed a rows row (best_is_nearest a rows k row there near best) ∙ sym there
+
+pub order_serves : (order : List ℕ) (rows : List Row) → IsOrder order rows → Serves false order rows
+order_serves [] rows is = tt
+order_serves (number ∷ order) rows is = is

@@ -2,3 +2,4 @@
 pub mod Grammar
 pub mod Standing
 pub mod Held
+pub mod Hulls

@@ -1,6 +1,6 @@
 //! What the header of a line program says to its opcodes.
 
-ghost use Rattle.std.specs.Prelude.{◌≡◌, ◌≢◌, ◌+◌, ◌-◌, ◌*◌, ℤ, pos, ◌+ℤ◌, ◌∷◌, [], slice_index_or, if◌then◌else◌};
+ghost use Rattle.std.specs.Prelude.{◌≡◌, ◌≢◌, true, ◌+◌, ◌-◌, ◌*◌, ℤ, pos, ◌+ℤ◌, ◌∷◌, [], slice_index_or, if◌then◌else◌};
 ghost use Rattle.std.specs.Prelude.{OnOk};
 ghost use Rattle.wasm_bytes.specs.Place.{Moves};
 ghost use Rattle.wasm_bytes.specs.calls.Answers.{Reads};
@@ -40,6 +40,28 @@ impl<'a> Model for Parameters<'a> {
 }
 
 impl<'a> Parameters<'a> {
+    /// Those of no program.
+    pub(crate) fn unused() -> Self {
+        Parameters {
+            minimum_instruction_length: 0,
+            line_base: 0,
+            line_range: 1,
+            opcode_base: 1,
+            opcode_lengths: Run::new(&[]),
+        }
+    }
+
+    /// Each opcode says the same by both.
+    pub(crate) fn is_same(&self, other: &Parameters<'_>) -> bool
+        ensures { result ≡ true → self.now ≡ other.now }
+    {
+        self.minimum_instruction_length == other.minimum_instruction_length
+            && self.line_base == other.line_base
+            && self.line_range == other.line_range
+            && self.opcode_base == other.opcode_base
+            && self.opcode_lengths.as_slice() == other.opcode_lengths.as_slice()
+    }
+
     /// The first special opcode.
     pub fn opcode_base(&self) -> u8
         ensures { result ≡ self.now.opcode_base }

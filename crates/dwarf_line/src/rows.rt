@@ -1,9 +1,9 @@
 //! The rows of a sequence.
 
-ghost use Rattle.std.specs.Prelude.{◌≡◌, true, length, IfOk, slice_get};
+ghost use Rattle.std.specs.Prelude.{◌≡◌, ◌==◌, ◌&&◌, true, not, nat_lt, length, IfOk, slice_get};
 ghost use Rattle.std.specs.Option.{option_copied};
 ghost use Rattle.dwarf_line.specs.declared.lines.Row.{Row};
-ghost use Rattle.dwarf_line.specs.Place.{nearest};
+ghost use Rattle.dwarf_line.specs.Place.{greater, nearest};
 ghost use Rattle.dwarf_line.specs.inner.Halving.{ascends_from, last_reached};
 ghost use Rattle.dwarf_line.specs.inner.Order.{address_at, numbers_from, IsOrder};
 
@@ -20,7 +20,8 @@ pub struct Rows {
     // Addresses ascend, as the standard wants it. Then a row is found by halving.
     ascend: bool,
     // Where they do not, the numbers of the rows by their addresses, and of equal ones in the
-    // order of the list: a row is found by halving these. Else it is empty.
+    // order of the list: a row is found by halving these. Else it is empty, and so it is for
+    // removed code, which holds no address, so that none of its rows is looked for.
     order: Vec<usize>,
 }
 
@@ -34,6 +35,21 @@ impl Model for Rows {
     ghost view = { λ r. r.rows };
 
     ghost invariant = { λ r. Serves r.ascend r.order.items r.rows };
+}
+
+/// Whether a first address is not one that linkers give to removed code.
+pub(crate) fn is_kept(first: u32) -> bool
+    ensures { result ≡ (not (first == 0) && nat_lt first 0xfffffffe) }
+{
+    first != 0 && first < 0xffff_fffe
+}
+
+/// Whether rows are those of code that was not removed.
+fn are_kept(rows: &[Row]) -> bool {
+    match rows.first() {
+        Some(row) => is_kept(row.address),
+        None => false,
+    }
 }
 
 /// No address is less than the one in front of it.
@@ -99,6 +115,23 @@ fn order_of(alloc: Global, rows: &[Row]) -> Result<Vec<usize>, NoMemory>
     Ok(order)
 }
 
+/// The one with the greater address, the second of equals.
+fn greater(a: Row, b: Row) -> Row
+    ensures { result ≡ greater a b }
+{
+    if a.address <= b.address { b } else { a }
+}
+
+/// The row with the greatest address not past this one, the last of equals, in linear time.
+fn searched(address: u32, rows: &[Row]) -> Option<Row>
+    ensures { result ≡ nearest address rows.now }
+{
+    rows.iter()
+        .copied()
+        .filter(|r| r.address <= address)
+        .reduce(greater)
+}
+
 /// The row with the greatest address not past this one, the last of equals, by halving an order.
 fn nearest_by(address: u32, order: &[usize], rows: &[Row]) -> Option<Row>
     requires { IsOrder order.now rows.now }
@@ -116,17 +149,18 @@ impl Rows {
     pub fn new(alloc: Global, rows: Items<Row>) -> Result<Self, NoMemory>
         ensures { IfOk result (λ r. r ≡ rows) }
     {
-        if are_ascending(rows.as_slice()) {
+        let ascend = are_ascending(rows.as_slice());
+        if ascend || !are_kept(rows.as_slice()) {
             return Ok(Rows {
                 rows,
-                ascend: true,
+                ascend,
                 order: Vec::new(alloc),
             });
         }
         let order = order_of(alloc, rows.as_slice())?;
         Ok(Rows {
             rows,
-            ascend: false,
+            ascend,
             order,
         })
     }
@@ -149,13 +183,15 @@ impl Rows {
         self.rows.get(0)
     }
 
-    /// The row with the greatest address not past this one, the last of equals, in logarithmic
-    /// time.
+    /// The row with the greatest address not past this one, the last of equals: in logarithmic
+    /// time, but for removed code.
     pub fn nearest(&self, address: u32) -> Option<Row>
         ensures { result ≡ nearest address self.now }
     {
         if self.ascend {
             last_reached(address, self.rows.as_slice())
+        } else if self.order.is_empty() {
+            searched(address, self.rows.as_slice())
         } else {
             nearest_by(address, self.order.as_slice(), self.rows.as_slice())
         }

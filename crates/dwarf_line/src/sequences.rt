@@ -8,6 +8,7 @@ ghost use Rattle.dwarf_line.specs.inner.Halving.{last_reached, ascends_from};
 ghost use Rattle.dwarf_line.specs.calls.Held.{held};
 ghost use Rattle.dwarf_line.specs.inner.Starts.{start_of, starts_from, apart_from, sought};
 
+use crate::hull::held_by;
 use crate::lines::Sequence;
 use causes::NoMemory;
 use pm_text::Items;
@@ -52,11 +53,7 @@ impl Sequence {
         ensures { result ≡ held self.now }
     {
         let first = self.rows.first()?.address;
-        if first != 0 && first < 0xffff_fffe {
-            Some((first, self.end))
-        } else {
-            None
-        }
+        held_by(Some(first), self.end)
     }
 }
 

@@ -3,6 +3,8 @@ use Rattle.std.specs.Prelude.{◌≡◌, ℕ, ℤ, pos, List, [], ◌∷◌, map
 use Rattle.std.specs.Option.{option_or}
 use Rattle.std.specs.List.{AllByRecursion}
 use Rattle.dwarf_info.specs.Sections.{SectionBytes5}
+use Rattle.dwarf_line.specs.declared.hull.Hull.{Hull}
+use Rattle.dwarf_line.specs.calls.Hulls.{hull_of}
 use Rattle.debug_frames.specs.declared.programs.Program.{Program}
 use Rattle.debug_frames.specs.declared.programs.Program.TheVariants.{Read, Unreadable}
 use Rattle.debug_frames.specs.declared.rows.RowPlace.{RowPlace}
@@ -10,9 +12,13 @@ use Rattle.debug_frames.specs.declared.stored.Stored.{Stored}
 use Rattle.debug_frames.specs.declared.stored.Stored.TheVariants.{Whole, Bounded}
 use Rattle.debug_frames.specs.declared.stored.Stored.TheVariants as stored
 use Rattle.debug_frames.specs.Programs.{program_there, located_in}
-use Rattle.debug_frames.specs.inner.Hulls.{hull_in}
 use Rattle.debug_frames.specs.inner.Paths.{row_place}
 use Rattle.debug_frames.specs.inner.Placing.{held_by}
+
+-- the bounds of a program that can be read
+abbrev pub hull_in : Program → Option Hull
+hull_in (Read lines) = Some (hull_of lines)
+hull_in Unreadable = None
 
 -- What is kept of a program is all of it, or its bounds.
 abbrev pub Serves : Program → Stored → Type 0

@@ -30,7 +30,8 @@ by_place p q = ordering_then (nat_cmp p.0 q.0) (nat_cmp p.1 q.1)
 abbrev pub IsOrder : List ℕ → List Row → Type 0
 IsOrder order rows = IsPermutation (numbers_from 0 (length rows)) order × IsSortedByKey (place_at rows) by_place order
 
--- Rows ascend by themselves, or there is an order of them.
+-- Rows ascend by themselves, or there is an order of them, or none was made.
 abbrev pub Serves : Bool → List ℕ → List Row → Type 0
 Serves true order rows = ascends_from (λ (row : Row). row.address) 0 rows ≡ true
-Serves false order rows = IsOrder order rows
+Serves false [] rows = Unit {0}
+Serves false (number ∷ order) rows = IsOrder (number ∷ order) rows

@@ -1,4 +1,4 @@
-use Rattle.std.proofs.Common.{◌≡◌, ℕ, List, ◌++◌, None, ap, ◌∙◌}
+use Rattle.std.proofs.Common.{◌++◌, None, ap, ◌∙◌}
 use Rattle.std.specs.Option.{option_copied}
 use Rattle.debug_frames.specs.Frames.{lines_behind}
 use Rattle.debug_frames.specs.inner.Resolving.{Resolved}

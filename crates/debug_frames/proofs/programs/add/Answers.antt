@@ -28,4 +28,4 @@ returns-clause-placed c =
 
 pub returns-clause-stored : goal.returns-clause-stored
 returns-clause-stored c =
-    stored_more c.args.sections.now c.args.programs.now c.push.new.self c.in-Some.at c.in_ok-stored.stored c.requires.stored c.in_ok-stored.ensures c.in_ok-push.ensures.ok
+    stored_more c.args.sections.now c.args.programs.now c.push.new.self c.in-Some.at c.in_ok-stored.stored c.requires.stored c.in_ok-stored.ensures.stored c.in_ok-push.ensures.ok

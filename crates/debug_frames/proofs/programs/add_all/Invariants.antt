@@ -13,4 +13,5 @@ invariant-loop-answer l = record {
   programs : fold (λ programs u. with_program l.sections programs (named u)) (seen l.sections l.programs) (drop l.answer-index l.units) ≡ fold (λ programs u. with_program l.sections programs (named u)) (seen l.sections l.fn.programs) l.units;
   placed : IsPlaced (λ x. x.0) l.programs (get nat_cmp l.places);
   stored : AreStored l.sections l.programs;
+  room : l.room.scans ≡ l.sections.base.line;
 }

@@ -1,4 +1,4 @@
-use Rattle.std.proofs.Common.{◌≡◌, Option, None, sym, ap, ◌∙◌}
+use Rattle.std.proofs.Common.{Option, None, sym, ap, ◌∙◌}
 use Rattle.debug_frames.specs.declared.programs.Program.{Program}
 use Rattle.debug_frames.specs.inner.Paths.{path_at}
 use Rattle.debug_frames.proofs.StoreLaws.{shown_of}

@@ -1,4 +1,4 @@
-use Rattle.std.proofs.Common.{◌≡◌, ◌<◌, ◌^◌, ℕ, List, sym, ap, subst, ◌∙◌, arith}
+use Rattle.std.proofs.Common.{◌<◌, ◌^◌, ℕ, List, sym, ap, subst, ◌∙◌, arith}
 use Rattle.debug_frames.specs.declared.stored.Stored.{Stored}
 use Rattle.debug_frames.specs.inner.Stores.{AreStored, places_among}
 use Rattle.debug_frames.proofs.StoreLaws.{none_claimed, first_claimed, stored_behind}

@@ -1,4 +1,4 @@
-use Rattle.std.proofs.Common.{◌≡◌, sym, ◌∙◌}
+use Rattle.std.proofs.Common.{sym, ◌∙◌}
 use Rattle.debug_frames.specs.Programs.{program_there}
 use Rattle.debug_frames.proofs.StoreLaws.{no_place}
 use Rattle.debug_frames.proofs.stored.place_within.Goals as goal

@@ -1,4 +1,4 @@
-use Rattle.std.proofs.Common.{◌≡◌, ap, subst, ◌∙◌}
+use Rattle.std.proofs.Common.{ap, subst, ◌∙◌}
 use Rattle.dwarf_line.specs.declared.lines.Lines.{Lines}
 use Rattle.debug_frames.specs.Programs.{program_there}
 use Rattle.debug_frames.specs.inner.Paths.{path_in}

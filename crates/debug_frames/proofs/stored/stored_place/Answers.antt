@@ -1,4 +1,4 @@
-use Rattle.std.proofs.Common.{◌≡◌, subst, ◌∙◌}
+use Rattle.std.proofs.Common.{subst, ◌∙◌}
 use Rattle.debug_frames.specs.Programs.{program_there}
 use Rattle.debug_frames.specs.inner.Stores.{Serves}
 use Rattle.debug_frames.proofs.StoreLaws.{whole_place, unreadable_place}

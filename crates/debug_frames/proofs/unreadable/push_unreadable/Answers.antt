@@ -1,4 +1,4 @@
-use Rattle.std.proofs.Common.{◌≡◌, ◌∙◌}
+use Rattle.std.proofs.Common.{◌∙◌}
 use Rattle.debug_frames.proofs.StandingLaws.{unit_kept}
 use Rattle.debug_frames.proofs.unreadable.push_unreadable.Goals as goal
 

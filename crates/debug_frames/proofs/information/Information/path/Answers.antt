@@ -1,4 +1,4 @@
-use Rattle.std.proofs.Common.{◌≡◌, ℕ, List, Option, Some, ap, ◌∙◌}
+use Rattle.std.proofs.Common.{ℕ, List, Option, Some, ap, ◌∙◌}
 use Rattle.debug_frames.specs.declared.programs.Program.{Program}
 use Rattle.debug_frames.specs.Programs.{program_there}
 use Rattle.debug_frames.specs.calls.Kept.{program_at}

@@ -1,4 +1,4 @@
-use Rattle.std.proofs.Common.{◌≡◌, ℕ, List, ap, ◌∙◌}
+use Rattle.std.proofs.Common.{ℕ, List, ap, ◌∙◌}
 use Rattle.debug_frames.specs.declared.programs.Program.{Program}
 use Rattle.debug_frames.specs.calls.Kept.{program_at}
 use Rattle.debug_frames.specs.inner.Paths.{path_at}

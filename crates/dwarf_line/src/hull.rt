@@ -1,9 +1,10 @@
 //! Bounds of the addresses that a line program holds.
 
 ghost use Rattle.std.specs.Prelude.{◌≡◌, nat_le, if◌then◌else◌};
-ghost use Rattle.debug_frames.specs.inner.Hulls as definitions;
+ghost use Rattle.dwarf_line.specs.calls.Hulls as definitions;
+ghost use Rattle.dwarf_line.specs.inner.Outlines.{held_by};
 
-use dwarf_line::Sequence;
+use crate::rows::is_kept;
 
 /// All addresses that a line program holds are from the first one up to but not including the
 /// second.
@@ -25,8 +26,18 @@ fn greater(a: u32, b: u32) -> u32
     if a <= b { b } else { a }
 }
 
-/// With the addresses that a sequence holds.
-fn widened(hull: Hull, held: Option<(u32, u32)>) -> Hull
+/// The bounds of no address.
+pub(crate) fn no_hull() -> Hull
+    ensures { result ≡ definitions.no_hull }
+{
+    Hull {
+        first: 0xffff_ffff,
+        end: 0,
+    }
+}
+
+/// With the addresses from one up to but not including another.
+pub(crate) fn widened(hull: Hull, held: Option<(u32, u32)>) -> Hull
     ensures { result ≡ definitions.widened hull held }
 {
     match held {
@@ -38,22 +49,20 @@ fn widened(hull: Hull, held: Option<(u32, u32)>) -> Hull
     }
 }
 
-/// The bounds of what sequences hold.
-pub(crate) fn hull_of(sequences: &[Sequence]) -> Hull
-    ensures { result ≡ definitions.hull_from definitions.no_hull sequences.now }
+/// The addresses that a sequence holds whose first row has this one, if it has rows.
+pub(crate) fn held_by(first: Option<u32>, end: u32) -> Option<(u32, u32)>
+    ensures { result ≡ held_by first end }
 {
-    let mut hull = Hull {
-        first: 0xffff_ffff,
-        end: 0,
-    };
-    for sequence in sequences {
-        hull = widened(hull, sequence.held());
+    let first = first?;
+    if is_kept(first) {
+        Some((first, end))
+    } else {
+        None
     }
-    hull
 }
 
 impl Hull {
-    pub(crate) fn holds(&self, address: u32) -> bool
+    pub fn holds(&self, address: u32) -> bool
         ensures { result ≡ definitions.is_inside self.now address }
     {
         self.first <= address && address < self.end

@@ -1,10 +1,9 @@
 -- Bounds of all addresses that the sequences of a line program hold.
-use Rattle.std.specs.Prelude.{ℕ, List, [], ◌∷◌, Option, Some, None, Bool, nat_le, nat_lt, ◌&&◌, if◌then◌else◌}
+use Rattle.std.specs.Prelude.{ℕ, List, [], ◌∷◌, Option, Some, None, option_map, Bool, nat_le, nat_lt, ◌&&◌, if◌then◌else◌}
+use Rattle.dwarf_line.specs.declared.hull.Hull.{Hull}
+use Rattle.dwarf_line.specs.declared.lines.Lines.{Lines}
 use Rattle.dwarf_line.specs.declared.lines.Sequence.{Sequence}
 use Rattle.dwarf_line.specs.calls.Held.{held}
-use Rattle.debug_frames.specs.declared.hull.Hull.{Hull}
-use Rattle.debug_frames.specs.declared.programs.Program.{Program}
-use Rattle.debug_frames.specs.declared.programs.Program.TheVariants.{Read, Unreadable}
 
 -- of no address
 abbrev pub no_hull : Hull
@@ -21,7 +20,9 @@ hull_from h (s ∷ ss) = hull_from (widened h (held s)) ss
 abbrev pub is_inside : Hull → ℕ → Bool
 is_inside h address = nat_le h.first address && nat_lt address h.«end»
 
--- of a program that can be read
-abbrev pub hull_in : Program → Option Hull
-hull_in (Read lines) = Some (hull_from no_hull lines.sequences)
-hull_in Unreadable = None
+abbrev pub hull_of : Lines → Hull
+hull_of lines = hull_from no_hull lines.sequences
+
+-- where a program can be read
+abbrev pub hull_if : Option Lines → Option Hull
+hull_if lines = option_map hull_of lines
