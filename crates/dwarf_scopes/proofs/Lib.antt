@@ -1,6 +1,8 @@
 pub mod Filters
 pub mod Counts
+pub mod OrderLaws
 pub mod StepLaws
+pub mod SpanLaws
 pub mod NumberLaws
 pub mod HolderLaws
 pub mod KnownLaws

@@ -1,13 +1,13 @@
 -- Laws of tables of steps.
-use Rattle.std.proofs.Common.{◌≡◌, ℕ, zero, suc, ◌-◌, ◌<◌, ◌≤◌, Bool, true, false, leb, ltb, List, [], ◌∷◌, ◌++◌, length, take, drop, get_or, append_assoc, Option, Some, None, refl, sym, ap, subst, ◌∙◌, arith}
+use Rattle.std.proofs.Common.{◌≡◌, ℕ, zero, suc, ◌<◌, ◌≤◌, Bool, true, false, leb, ltb, List, [], ◌∷◌, ◌++◌, length, drop, get_or, Option, Some, None, refl, sym, ap, subst, ◌∙◌, arith}
 use Rattle.std.specs.Prelude.{find, option_map, if◌then◌else◌}
 use Rattle.std.specs.Option.{option_or}
-use Rattle.std.specs.List.Sorted.{IsPartitionedBy, IsPartitionPoint}
-use Rattle.std.proofs.lemmas.List.{drop_all, take_rest}
+use Rattle.std.proofs.lemmas.List.{append-nil, drop_all}
 use Rattle.std.proofs.lemmas.List.Folds.{find-append}
 use Rattle.dwarf_scopes.specs.declared.steps.Range.{Range}
 use Rattle.dwarf_scopes.specs.declared.steps.Step.{Step}
 use Rattle.dwarf_scopes.specs.calls.Steps.{is_in, first_in, answer, AtMost, Descend, AreSteps, merged_with, merged}
+use Rattle.dwarf_scopes.proofs.OrderLaws.{Fall, IsPassed, passed_behind}
 use Rattle.dwarf_info.proofs.FindLaws.{or_none}
 
 -- ---- what two tables answer
@@ -107,38 +107,20 @@ merged_none (s ∷ left) = refl
 pub left_done : (left right : List Step) (i j : ℕ) → length left ≤ i → merged (drop i left) (drop j right) ≡ drop i left ++ drop j right
 left_done left right i j le = rw (drop_all i left le) refl
 
-append_none : (steps : List Step) → steps ++ [] ≡ steps
-append_none [] = refl
-append_none (s ∷ steps) = ap (λ (more : List Step). s ∷ more) (append_none steps)
-
 pub right_done : (left right : List Step) (i j : ℕ) → length right ≤ j → merged (drop i left) (drop j right) ≡ drop i left ++ drop j right
-right_done left right i j le = rw (drop_all j right le) (merged_none (drop i left) ∙ sym (append_none (drop i left)))
-
-pub merge_done : (out left right all first last : List Step) (i j : ℕ) → out ++ merged (drop i left) (drop j right) ≡ all → merged (drop i left) (drop j right) ≡ drop i left ++ drop j right
-    → first ≡ out ++ take (length left - i) (drop i left) → last ≡ first ++ take (length right - j) (drop j right) → last ≡ all
-merge_done out left right all first last i j so_far end one two =
-    two ∙ ap (λ (l : List Step). first ++ l) (take_rest right j)
-    ∙ ap (λ (l : List Step). l ++ drop j right) (one ∙ ap (λ (l : List Step). out ++ l) (take_rest left i))
-    ∙ append_assoc out (drop i left) (drop j right) ∙ ap (λ (l : List Step). out ++ l) (sym end) ∙ so_far
+right_done left right i j le = rw (drop_all j right le) (merged_none (drop i left) ∙ sym (append-nil (drop i left)))
 
 -- ---- the step that counts for an address
 
--- where the steps past the address end
-abbrev pub IsPassed : ℕ → List Step → ℕ → Type 0
-IsPassed a steps i = IsPartitionPoint (λ (s : Step). ltb a s.from ≡ true) (λ (s : Step). ltb a s.from ≡ false) steps i
-
-passed_behind : (a : ℕ) (s : Step) (steps : List Step) (i : ℕ) → IsPassed a (s ∷ steps) (suc i) → IsPassed a steps i
-passed_behind a s steps i p = ((λ k d low high. p.0 (suc k) d (omega arith) (omega (arith, high))), (λ k d low high. p.1 (suc k) d (omega (arith, low)) (omega (arith, high))))
-
-pub none_passed : (a : ℕ) (steps : List Step) (i : ℕ) → length steps ≤ i → IsPassed a steps i → answer steps a ≡ None
+pub none_passed : (a : ℕ) (steps : List Step) (i : ℕ) → length steps ≤ i → IsPassed (λ (s : Step). s.from) a steps i → answer steps a ≡ None
 none_passed a [] i le p = refl
 none_passed a (s ∷ steps) zero le p = absurd (omega (arith, le))
 none_passed a (s ∷ steps) (suc i) le p =
     let past : ltb a s.from ≡ true = p.0 0 s (omega arith) (omega arith) in
     let ahead : leb s.from a ≡ false = grind (arith, past) in
-    rw ahead (none_passed a steps i (omega (arith, le)) (passed_behind a s steps i p))
+    rw ahead (none_passed a steps i (omega (arith, le)) (passed_behind (λ (s : Step). s.from) a s steps i p))
 
-pub at_passed : (a : ℕ) (steps : List Step) (i : ℕ) (d : Step) → i < length steps → IsPassed a steps i → (get_or steps i d).index ≡ answer steps a
+pub at_passed : (a : ℕ) (steps : List Step) (i : ℕ) (d : Step) → i < length steps → IsPassed (λ (s : Step). s.from) a steps i → (get_or steps i d).index ≡ answer steps a
 at_passed a [] i d lt p = absurd (omega (arith, lt))
 at_passed a (s ∷ steps) zero d lt p =
     let past : ltb a s.from ≡ false = p.1 0 s (omega arith) (omega arith) in
@@ -147,25 +129,9 @@ at_passed a (s ∷ steps) zero d lt p =
 at_passed a (s ∷ steps) (suc i) d lt p =
     let past : ltb a s.from ≡ true = p.0 0 s (omega arith) (omega arith) in
     let ahead : leb s.from a ≡ false = grind (arith, past) in
-    rw ahead (at_passed a steps i d (omega (arith, lt)) (passed_behind a s steps i p))
+    rw ahead (at_passed a steps i d (omega (arith, lt)) (passed_behind (λ (s : Step). s.from) a s steps i p))
 
-below_first : (s : Step) (steps : List Step) (j : ℕ) (d : Step) → Descend (s ∷ steps) → j < length steps → (get_or steps j d).from ≤ s.from
-below_first s [] j d e h = absurd (omega (arith, h))
-below_first s (t ∷ steps) zero d e h = e.0
-below_first s (t ∷ steps) (suc j) d e h =
-    let later : (get_or steps j d).from ≤ t.from = below_first t steps j d e.1 (omega (arith, h)) in
-    let first : t.from ≤ s.from = e.0 in
-    omega (arith, later, first)
-
-descend_all : (steps : List Step) → Descend steps → (i j : ℕ) (d : Step) → i ≤ j → j < length steps → (get_or steps j d).from ≤ (get_or steps i d).from
-descend_all [] e i j d up h = absurd (omega (arith, h))
-descend_all (s ∷ steps) e zero zero d up h = omega arith
-descend_all (s ∷ steps) e zero (suc j) d up h = below_first s steps j d e (omega (arith, h))
-descend_all (s ∷ steps) e (suc i) zero d up h = absurd (omega (arith, up))
-descend_all (s ∷ steps) e (suc i) (suc j) d up h = descend_all steps e.1 i j d (omega (arith, up)) (omega (arith, h))
-
-pub is_partitioned : (a : ℕ) (steps : List Step) → Descend steps → IsPartitionedBy (λ (s : Step). ltb a s.from) steps
-is_partitioned a steps e i j d up h past =
-    let le : (get_or steps j d).from ≤ (get_or steps i d).from = descend_all steps e i j d up h in
-    let over : a < (get_or steps j d).from = grind (arith, past) in
-    grind (arith, le, over)
+pub falling : (steps : List Step) → Descend steps → Fall (λ (s : Step). s.from) steps
+falling [] e = tt
+falling (s ∷ []) e = (tt, tt)
+falling (s ∷ t ∷ steps) e = (e.0, falling (t ∷ steps) e.1)

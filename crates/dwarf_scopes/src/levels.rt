@@ -1,17 +1,16 @@
 //! Parts of the entries of a unit of which none is an inlined subroutine that holds an address: they
 //! are passed over.
 
-ghost use Rattle.std.specs.Prelude.{◌≡◌, ◌≤◌, ◌<◌, ◌+◌, ℕ, List, true, false, [], length, take, drop, IfOk, is_none};
-ghost use Rattle.std.specs.Option.{option_to_list};
+ghost use Rattle.std.specs.Prelude.{◌≡◌, ◌≤◌, ◌<◌, ◌+◌, ◌*◌, ℕ, List, [], true, false, length, take, drop, IfOk, not, option_and_then};
 ghost use Rattle.std.specs.List.{list_any};
 ghost use Rattle.dwarf_info.specs.declared.entry.Entry.{Entry as Listed};
-ghost use Rattle.dwarf_scopes.specs.calls.Numbered.{ranges_from};
-ghost use Rattle.dwarf_scopes.specs.calls.Steps.{answer};
+ghost use Rattle.dwarf_scopes.specs.calls.Spans.{covers};
 ghost use Rattle.dwarf_scopes.specs.calls.Levels as definitions;
+ghost use Rattle.dwarf_scopes.specs.inner.Insides.{insides};
 
 use crate::insides::insides_of;
 use crate::ranges::bounds;
-use crate::steps::{Range, Steps};
+use crate::spans::{Span, Spans};
 use crate::variables::first_entries;
 use causes::NoMemory;
 use dwarf_entries::names::RANGES;
@@ -21,21 +20,26 @@ use dwarf_info::{Entry, Unit, UnitAnswer};
 use pm_text::Items;
 use std::alloc::Global;
 
-/// So many entries are a part, a part of parts, and a part of these.
-const SMALL: usize = 64;
+/// So many entries are a part, and so many parts one of the next level.
+const FOLD: usize = 8;
 
-const LARGE: usize = 0x1000;
+/// The entries of a unit by parts of so many, as far as they are whole: each has the addresses that
+/// may be held in it.
+#[derive(Drop)]
+pub struct Level {
+    pub size: usize,
+    pub parts: Items<Spans>,
+}
 
-const HUGE: usize = 0x4_0000;
-
-/// The entries of a unit by parts: each has the addresses that may be held in it.
+/// The entries of a unit by parts of any size.
 #[derive(Drop)]
 pub struct UnitLevels {
     /// How many entries stand in each.
-    pub counts: Items<usize>,
-    pub small: Items<Steps>,
-    pub large: Items<Steps>,
-    pub huge: Items<Steps>,
+    pub counts: Items<u32>,
+    /// No entry is an inlined subroutine that may hold an address: then there are no levels.
+    pub quiet: bool,
+    /// The one of the smallest parts first.
+    pub levels: Items<Level>,
 }
 
 /// The addresses that an entry may hold where it is an inlined subroutine: all, where it has a list.
@@ -54,28 +58,60 @@ fn may_hold(entry: &Entry<'_>) -> Option<(u32, i128)>
     }
 }
 
-/// The addresses of these entries, as ranges.
-fn ranges_of(alloc: Global, entries: &[Entry<'_>]) -> Result<Vec<Range>, NoMemory>
-    ensures { IfOk result (λ ranges. ranges.items
-        ≡ ranges_from definitions.may_in 0 entries.now) }
+/// The last address in front of this one, where there is one.
+fn last_before(end: i128) -> u32
+    ensures { result ≡ definitions.last_before end }
 {
-    let mut ranges = Vec::new(alloc);
-    'entries: for (index, entry) in entries.iter().enumerate() {
-        if let Some((first, end)) = may_hold(entry) {
-            ranges.push(Range { first, end, index })?;
-        }
+    match u32::try_from(end) {
+        Ok(end) => end.saturating_sub(1),
+        Err(_) => u32::MAX,
     }
-    Ok(ranges)
+}
+
+/// The addresses from one up to another.
+fn span_between(first: u32, end: i128) -> Option<Span>
+    ensures { result ≡ definitions.span_between (first, end) }
+{
+    if i128::from(first) < end {
+        let last = last_before(end);
+        Some(Span { first, last })
+    } else {
+        None
+    }
+}
+
+/// The addresses that an entry may hold, as a span.
+fn span_of(entry: &Entry<'_>) -> Option<Span>
+    ensures { result ≡ option_and_then definitions.span_between (definitions.may_bounds entry.now) }
+{
+    let (first, end) = may_hold(entry)?;
+    span_between(first, end)
+}
+
+/// Addresses, and those that an entry may hold.
+fn with_entry(alloc: Global, part: Spans, entry: &Entry<'_>) -> Result<Spans, NoMemory>
+    ensures { IfOk result (definitions.IsWith part entry.now) }
+{
+    match span_of(entry) {
+        Some(span) => {
+            let more = part.with(alloc, span)?;
+            Ok(more)
+        }
+        None => Ok(part),
+    }
 }
 
 /// A part.
-#[tactic(auto, using(crate::proofs::LevelLaws::is_part))]
-fn part_of(alloc: Global, entries: &[Entry<'_>]) -> Result<Steps, NoMemory>
+fn part_of(alloc: Global, entries: &[Entry<'_>]) -> Result<Spans, NoMemory>
     ensures { IfOk result (definitions.IsPart entries.now) }
 {
-    let ranges = ranges_of(alloc, entries)?;
-    let steps = Steps::of(alloc, ranges.as_slice())?;
-    Ok(steps)
+    let mut part = Spans::none(alloc);
+    let mut left = entries;
+    'entries: while let [entry, behind @ ..] = left {
+        part = with_entry(alloc, part, entry)?;
+        left = behind;
+    }
+    Ok(part)
 }
 
 /// Those from a number on.
@@ -87,7 +123,7 @@ pub fn entries_from<'r, 'a>(entries: &'r [Entry<'a>], size: usize) -> &'r [Entry
 }
 
 /// Parts of so many entries, as far as they are whole.
-fn parts_of(alloc: Global, size: usize, entries: &[Entry<'_>]) -> Result<Items<Steps>, NoMemory>
+fn parts_of(alloc: Global, size: usize, entries: &[Entry<'_>]) -> Result<Items<Spans>, NoMemory>
     requires { 0 < size }
     ensures { IfOk result (λ parts. definitions.AreParts size parts entries.now) }
 {
@@ -103,21 +139,121 @@ fn parts_of(alloc: Global, size: usize, entries: &[Entry<'_>]) -> Result<Items<S
     Ok(parts)
 }
 
+/// Parts of twice as many entries, of two each.
+fn doubled(alloc: Global, parts: &[Spans]) -> Result<Items<Spans>, NoMemory>
+    ensures { IfOk result (λ double. (size : ℕ) → (entries : List Listed)
+        → definitions.AreParts size parts.now entries
+        → definitions.AreParts (size + size) double entries) }
+{
+    let mut double = Items::new(alloc);
+    let mut left = parts;
+    'parts: while let [one, two, behind @ ..] = left {
+        let both = one.joined(alloc, two)?;
+        double.push(both)?;
+        left = behind;
+    }
+    Ok(double)
+}
+
+/// The parts of the next level.
+#[tactic(auto, using(crate::proofs::LevelLaws::are_larger))]
+fn larger(alloc: Global, parts: &[Spans]) -> Result<Items<Spans>, NoMemory>
+    ensures { IfOk result (λ more. (size : ℕ) → (entries : List Listed)
+        → definitions.AreParts size parts.now entries
+        → definitions.AreParts (size * 8) more entries) }
+{
+    let double = doubled(alloc, parts)?;
+    let fourfold = doubled(alloc, double.as_slice())?;
+    let eightfold = doubled(alloc, fourfold.as_slice())?;
+    Ok(eightfold)
+}
+
+/// The levels of entries, as far as there are whole parts.
+fn by_sizes(alloc: Global, entries: &[Entry<'_>]) -> Result<Items<Level>, NoMemory>
+    ensures { IfOk result (λ levels. definitions.AreSized levels entries.now) }
+{
+    let mut levels = Items::new(alloc);
+    let mut size = FOLD;
+    let mut parts = parts_of(alloc, FOLD, entries)?;
+    'sizes: while size <= entries.len() / FOLD {
+        let more = larger(alloc, parts.as_slice())?;
+        levels.push(Level { size, parts })?;
+        size *= FOLD;
+        parts = more;
+    }
+    if parts.is_empty() {
+        return Ok(levels);
+    }
+    levels.push(Level { size, parts })?;
+    Ok(levels)
+}
+
+/// An entry that holds no address as an inlined subroutine.
+fn is_silent(entry: &Entry<'_>) -> bool
+    ensures { result ≡ true → definitions.IsWith [] entry.now [] }
+{
+    span_of(entry).is_none()
+}
+
+/// Whether none of the entries may hold an address.
+fn are_silent(entries: &[Entry<'_>]) -> bool
+    ensures { result ≡ true → definitions.IsPart entries.now [] }
+{
+    let mut left = entries;
+    'entries: while let [entry, behind @ ..] = left {
+        if !is_silent(entry) {
+            return false;
+        }
+        left = behind;
+    }
+    true
+}
+
+/// The levels of entries, or none where they are not asked.
+fn sized(alloc: Global, quiet: bool, entries: &[Entry<'_>]) -> Result<Items<Level>, NoMemory>
+    ensures { IfOk result (λ levels. definitions.AreSized levels entries.now) }
+{
+    if quiet {
+        return Ok(Items::new(alloc));
+    }
+    by_sizes(alloc, entries)
+}
+
+/// Counts in four bytes each. More than these can say no memory holds.
+fn narrowed(alloc: Global, counts: &[usize]) -> Result<Items<u32>, NoMemory>
+    ensures { IfOk result (λ narrow. narrow ≡ counts.now) }
+{
+    let mut narrow = Items::new(alloc);
+    for count in counts {
+        let Ok(count) = u32::try_from(*count) else {
+            return Err(NoMemory);
+        };
+        narrow.push(count)?;
+    }
+    Ok(narrow)
+}
+
+fn counts_of(alloc: Global, entries: &[Entry<'_>]) -> Result<Items<u32>, NoMemory>
+    ensures { IfOk result (λ counts. counts ≡ insides entries.now) }
+{
+    let counts = insides_of(alloc, entries)?;
+    let narrow = narrowed(alloc, counts.as_slice())?;
+    Ok(narrow)
+}
+
 impl UnitLevels {
     /// Those of a unit.
     fn of(alloc: Global, unit: &Unit<'_>) -> Result<Self, NoMemory>
         ensures { IfOk result (definitions.AreLevels unit.now.entries) }
     {
         let entries = unit.entries.as_slice();
-        let counts = insides_of(alloc, entries)?;
-        let small = parts_of(alloc, SMALL, entries)?;
-        let large = parts_of(alloc, LARGE, entries)?;
-        let huge = parts_of(alloc, HUGE, entries)?;
+        let quiet = are_silent(entries);
+        let counts = counts_of(alloc, entries)?;
+        let levels = sized(alloc, quiet, entries)?;
         Ok(UnitLevels {
             counts,
-            small,
-            large,
-            huge,
+            quiet,
+            levels,
         })
     }
 
@@ -125,9 +261,8 @@ impl UnitLevels {
     fn none(alloc: Global) -> Self {
         UnitLevels {
             counts: Items::new(alloc),
-            small: Items::new(alloc),
-            large: Items::new(alloc),
-            huge: Items::new(alloc),
+            quiet: false,
+            levels: Items::new(alloc),
         }
     }
 }
@@ -155,43 +290,72 @@ pub fn all_levels(alloc: Global, units: &[UnitAnswer<'_>]) -> Result<Items<UnitL
     Ok(levels)
 }
 
-fn is_none_at(steps: &Steps, address: u32) -> bool
-    ensures { result ≡ is_none (answer steps.now address) }
+fn is_outside(spans: &Spans, address: u32) -> bool
+    ensures { result ≡ not (covers spans.now address) }
 {
-    steps.at(address).is_none()
+    !spans.holds(address)
 }
 
 /// Whether none may hold an address of the entries of a part, which begins at a number. The parts have
 /// so many entries.
 #[tactic(auto, using(crate::proofs::LevelLaws::quiet_at))]
-fn is_quiet(parts: &[Steps], size: usize, at: usize, address: u32) -> bool
-    requires { 0 < size }
+fn is_quiet(parts: &[Spans], size: usize, at: usize, address: u32) -> bool
     ensures { (entries : List Listed) → definitions.AreParts size parts.now entries
         → result ≡ true
         → list_any (definitions.may_hold address) (take size (drop at entries)) ≡ false }
 {
-    if at % size != 0 {
+    if size == 0 || at % size != 0 {
         return false;
     }
     match parts.get(at / size) {
-        Some(steps) => is_none_at(steps, address),
+        Some(spans) => is_outside(spans, address),
         None => false,
     }
 }
 
-/// How many entries from a number on are passed over, for none of them may hold an address.
+/// How many entries from a number on are passed over by the parts of a level.
+fn passed_by(level: &Level, at: usize, address: u32) -> usize
+    ensures { (entries : List Listed) → definitions.AreParts level.now.size level.now.parts entries
+        → list_any (definitions.may_hold address) (take result (drop at entries)) ≡ false }
+{
+    if is_quiet(level.parts.as_slice(), level.size, at, address) {
+        level.size
+    } else {
+        0
+    }
+}
+
+/// How many of so many levels, the one of the smallest parts first, have a part that begins at a
+/// number.
+fn beginning(levels: usize, at: usize) -> usize
+    ensures { result ≤ levels }
+{
+    let mut count = 0;
+    let mut number = at;
+    'levels: while count < levels && number % FOLD == 0 {
+        number /= FOLD;
+        count += 1;
+    }
+    count
+}
+
+/// How many entries from a number on are passed over, for none of them may hold an address: those of
+/// the largest such part that begins there, or all of a quiet unit.
 pub fn passed(levels: &UnitLevels, at: usize, address: u32) -> usize
     ensures { (entries : List Listed) → definitions.AreLevels entries levels.now
         → list_any (definitions.may_hold address) (take result (drop at entries)) ≡ false }
 {
-    if is_quiet(levels.huge.as_slice(), HUGE, at, address) {
-        return HUGE;
+    if levels.quiet {
+        return usize::MAX;
     }
-    if is_quiet(levels.large.as_slice(), LARGE, at, address) {
-        return LARGE;
-    }
-    if is_quiet(levels.small.as_slice(), SMALL, at, address) {
-        return SMALL;
+    let levels = levels.levels.as_slice();
+    let mut left = beginning(levels.len(), at);
+    'levels: while left > 0 {
+        left -= 1;
+        let quiet = passed_by(&levels[left], at, address);
+        if quiet > 0 {
+            return quiet;
+        }
     }
     0
 }

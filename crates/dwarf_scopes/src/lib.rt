@@ -13,6 +13,7 @@ mod listed;
 mod lists;
 mod ranges;
 mod scopes;
+mod spans;
 mod steps;
 mod subprograms;
 mod table;

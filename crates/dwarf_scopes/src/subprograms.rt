@@ -106,7 +106,7 @@ fn count_of(levels: &UnitLevels, number: usize) -> usize
     ensures { result ≡ unwrap_or (slice_get levels.now.counts number) 0 }
 {
     match levels.counts.get(number) {
-        Some(count) => *count,
+        Some(count) => *count as usize,
         None => 0,
     }
 }

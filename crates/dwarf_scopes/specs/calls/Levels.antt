@@ -1,5 +1,5 @@
 -- Parts of the entries of a unit, of which none may hold an address as an inlined subroutine.
-use Rattle.std.specs.Prelude.{◌≡◌, ◌<◌, ◌^◌, ℕ, ℤ, pos, List, [], ◌∷◌, take, drop, Option, Some, None, option_map, Bool, false, ◌==◌, if◌then◌else◌}
+use Rattle.std.specs.Prelude.{◌≡◌, ◌<◌, ◌^◌, ◌-◌, ℕ, ℤ, pos, negsuc, List, [], ◌∷◌, take, drop, Option, Some, None, option_map, Bool, true, false, nat_lt, int_lt, ◌==◌, if◌then◌else◌}
 use Rattle.std.specs.Option.{option_to_list}
 use Rattle.std.specs.List.{list_any}
 use Rattle.dwarf_info.specs.declared.entry.Entry.{Entry}
@@ -9,9 +9,10 @@ use Rattle.dwarf_info.specs.Attributes.{valued, as_offset, ranges}
 use Rattle.dwarf_entries.specs.Tags.{tag_inlined_subroutine}
 use Rattle.dwarf_scopes.specs.Ranges.{bounds_of}
 use Rattle.dwarf_scopes.specs.declared.levels.UnitLevels.{UnitLevels}
-use Rattle.dwarf_scopes.specs.declared.steps.Step.{Step}
+use Rattle.dwarf_scopes.specs.declared.levels.Level.{Level}
+use Rattle.dwarf_scopes.specs.declared.spans.Span.{Span}
 use Rattle.dwarf_scopes.specs.calls.Numbered.{is_within}
-use Rattle.dwarf_scopes.specs.calls.Steps.{answer}
+use Rattle.dwarf_scopes.specs.calls.Spans.{from_to, covers}
 use Rattle.dwarf_scopes.specs.inner.Insides.{insides}
 
 -- bounds, or all addresses where there is a list
@@ -28,20 +29,38 @@ may_in e = option_to_list (may_bounds e)
 abbrev pub may_hold : ℕ → Entry → Bool
 may_hold address e = is_within may_in address e
 
--- Where it has no answer, none of these entries may hold the address.
-abbrev pub IsPart : List Entry → List Step → Type 0
-IsPart es steps = (address : ℕ) → address < 2 ^ 32 → answer steps address ≡ None → list_any (may_hold address) es ≡ false
+-- ---- as spans
+
+-- the last address of 32 bits in front of this one
+abbrev pub last_before : ℤ → ℕ
+last_before (pos n) = if nat_lt n (2 ^ 32) then n - 1 else 4294967295
+last_before (negsuc n) = 4294967295
+
+abbrev pub span_between : ℕ × ℤ → Option Span
+span_between b = if int_lt (pos b.0) b.1 then Some (from_to b.0 (last_before b.1)) else None
+
+-- What is in none of these is in none of the part, and the entry may not hold it.
+abbrev pub IsWith : List Span → Entry → List Span → Type 0
+IsWith part e more = (address : ℕ) → address < 2 ^ 32 → covers more address ≡ false → (covers part address ≡ false) × (may_hold address e ≡ false)
+
+-- None of these entries may hold an address that is in none of the spans.
+abbrev pub IsPart : List Entry → List Span → Type 0
+IsPart es spans = (address : ℕ) → address < 2 ^ 32 → covers spans address ≡ false → list_any (may_hold address) es ≡ false
 
 -- each of so many entries
-abbrev pub AreParts : ℕ → List (List Step) → List Entry → Type 0
+abbrev pub AreParts : ℕ → List (List Span) → List Entry → Type 0
 AreParts size [] es = Unit {0}
-AreParts size (steps ∷ more) es = IsPart (take size es) steps × AreParts size more (drop size es)
+AreParts size (spans ∷ more) es = IsPart (take size es) spans × AreParts size more (drop size es)
+
+-- of each size
+abbrev pub AreSized : List Level → List Entry → Type 0
+AreSized [] es = Unit {0}
+AreSized (l ∷ ls) es = AreParts l.size l.parts es × AreSized ls es
 
 pub record AreLevels (es : List Entry) (l : UnitLevels) : Type 0 where
   pub counts : l.counts ≡ insides es
-  pub small : AreParts 64 l.small es
-  pub large : AreParts 4096 l.large es
-  pub huge : AreParts 262144 l.huge es
+  pub quiet : l.quiet ≡ true → IsPart es []
+  pub levels : AreSized l.levels es
 
 abbrev pub IsLeveled : UnitAnswer → UnitLevels → Type 0
 IsLeveled (Tree u) l = AreLevels u.entries l

@@ -1,0 +1,9 @@
+use Rattle.std.proofs.Common.{length}
+use Rattle.dwarf_scopes.proofs.LevelLaws.{InPart}
+use Rattle.dwarf_scopes.proofs.levels.part_of.Given as goal
+
+abbrev pub invariant-entries : goal.invariant-entries
+invariant-entries l = InPart l.part l.left l.entries
+
+abbrev pub decreases-entries : goal.decreases-entries
+decreases-entries l = length l.left
