@@ -1,15 +1,17 @@
 -- What is known of the subranges of an array: its counts, and its sizes from the innermost outwards.
 use Rattle.std.proofs.Common.{◌≡◌, ℕ, zero, suc, ◌+◌, ◌-◌, ◌<◌, ◌≤◌, Bool, true, false, List, [], ◌∷◌, ◌++◌, Option, Some, None, length, drop, get_or, refl, sym, ap, subst, ◌∙◌, arith}
-use Rattle.std.specs.Prelude.{map, slice_get, ◌==◌, nat_lt}
+use Rattle.std.specs.Prelude.{map, slice_get, ◌==◌, nat_lt, option_map}
 use Rattle.std.proofs.lemmas.Bool.Decides.{nat_tests}
-use Rattle.std.proofs.lemmas.Option.{slice_get_past}
-use Rattle.std.proofs.lemmas.List.{length-append}
+use Rattle.std.proofs.lemmas.Option.{slice_get_past, slice_get-map}
+use Rattle.std.proofs.lemmas.List.{length-append, length-map, map-append}
 use Rattle.dwarf_entries.specs.Standing.{Standing, children_tagged}
 use Rattle.dwarf_entries.specs.Tags.{tag_subrange}
 use Rattle.dwarf_types.specs.Counts.{subrange_count, one_at_least, counts}
 use Rattle.dwarf_types.specs.Products.{times, array_size}
 use Rattle.dwarf_types.specs.Sizes.{rows_size}
 use Rattle.dwarf_types.specs.calls.Subranges.{Subranges, size_behind}
+use Rattle.dwarf_types.specs.declared.kept_counts.KeptCount.{KeptCount}
+use Rattle.dwarf_types.specs.inner.Keeping.{count_of}
 use Rattle.dwarf_types.specs.inner.Sized.{AreSizes}
 use Rattle.dwarf_types.proofs.ArraySizes.{drop_none}
 
@@ -176,3 +178,14 @@ ended cs element ss m n size c h same is none =
 
 pub all_sized : (cs : List (Option ℕ)) (element : ℕ) (ss : List ℕ) (n size : ℕ) → Behind cs element ss n size → n ≡ 0 → AreSizes cs element ss
 all_sized cs element ss n size h none = sizes_all cs element ss n none h.from
+
+-- ---- counts as they are kept
+
+pub count_pushed : (old new : List KeptCount) (k : KeptCount) (c : Option ℕ) → new ≡ old ++ k ∷ [] → count_of k ≡ c → map count_of new ≡ map count_of old ++ c ∷ []
+count_pushed old new k c is counted = ap (map count_of) is ∙ map-append count_of old (k ∷ []) ∙ ap (λ (x : Option ℕ). map count_of old ++ x ∷ []) counted
+
+pub count_got : (ks : List KeptCount) (i : ℕ) (o : Option KeptCount) → slice_get ks i ≡ o → slice_get (map count_of ks) i ≡ option_map count_of o
+count_got ks i o is = slice_get-map count_of ks i ∙ ap (option_map count_of) is
+
+pub counts_length : (ks : List KeptCount) → length (map count_of ks) ≡ length ks
+counts_length ks = length-map ks count_of

@@ -7,7 +7,8 @@ ghost use Rattle.dwarf_types.specs.Counts.{counts, subrange_count};
 ghost use Rattle.dwarf_types.specs.calls.Subranges.{size_behind};
 ghost use Rattle.dwarf_types.specs.inner.Sized.{AreSizes};
 
-use crate::counts::subrange_count;
+use crate::counts::small_count;
+use crate::kept_counts::KeptCounts;
 use crate::size::times;
 use causes::NoMemory;
 use dwarf_entries::tags::SUBRANGE;
@@ -22,7 +23,7 @@ use std::marker::Model;
 #[derive(Drop)]
 pub struct ArrayRows {
     // The outermost first.
-    counts: Items<Option<u128>>,
+    counts: KeptCounts,
     element: u64,
     // With so many of the innermost subranges, from none on, up to the first that is not known.
     sizes: Items<u64>,
@@ -40,19 +41,15 @@ impl Model for ArrayRows {
 }
 
 /// The counts of the subranges among entries of this depth.
-fn counts_among(
-    alloc: Global,
-    entries: &[Entry<'_>],
-    depth: u32,
-) -> Result<Items<Option<u128>>, NoMemory>
+fn counts_among(alloc: Global, entries: &[Entry<'_>], depth: u32) -> Result<KeptCounts, NoMemory>
     ensures { IfOk result (λ cs. cs
         ≡ map subrange_count (filter (is_child depth tag_subrange) entries.now)) }
 {
-    let mut counts = Items::new(alloc);
+    let mut counts = KeptCounts::new(alloc);
     let mut left = entries;
     'entries: while let [entry, behind @ ..] = left {
         if is_child(entry, depth, SUBRANGE) {
-            counts.push(subrange_count(entry))?;
+            counts.push(small_count(entry))?;
         }
         left = behind;
     }
@@ -61,7 +58,7 @@ fn counts_among(
 
 /// The counts of an array: one that is not known where there are no subranges.
 #[tactic(auto, using(crate::proofs::SizeLaws::one_count, crate::proofs::SizeLaws::some_counts))]
-fn counts_of(alloc: Global, standing: &Standing<'_, '_>) -> Result<Items<Option<u128>>, NoMemory>
+fn counts_of(alloc: Global, standing: &Standing<'_, '_>) -> Result<KeptCounts, NoMemory>
     ensures { IfOk result (λ cs. cs ≡ counts standing.now) }
 {
     let mut counts = counts_among(alloc, standing.inside(), standing.entry().depth)?;
@@ -72,16 +69,19 @@ fn counts_of(alloc: Global, standing: &Standing<'_, '_>) -> Result<Items<Option<
 }
 
 /// The count of that number.
-fn numbered(counts: &[Option<u128>], number: usize) -> Option<u128>
+fn numbered(counts: &KeptCounts, number: usize) -> Option<u128>
     requires { number < length counts.now }
     ensures { result ≡ get_or counts.now number result }
 {
-    counts[number]
+    match counts.get(number) {
+        Some(count) => count,
+        None => unreachable!(),
+    }
 }
 
 /// The size of the elements, and of the arrays of one more of the innermost subranges each, up to
 /// the first that is not known.
-fn sizes_of(alloc: Global, counts: &[Option<u128>], element: u64) -> Result<Items<u64>, NoMemory>
+fn sizes_of(alloc: Global, counts: &KeptCounts, element: u64) -> Result<Items<u64>, NoMemory>
     ensures { IfOk result (AreSizes counts.now element) }
 {
     let mut sizes = Items::new(alloc);
@@ -112,12 +112,6 @@ fn size_at(sizes: &[u64], index: usize) -> Option<u64>
     sizes.get(index).copied()
 }
 
-fn count_at(counts: &[Option<u128>], index: usize) -> Option<Option<u128>>
-    ensures { result ≡ slice_get counts.now index }
-{
-    counts.get(index).copied()
-}
-
 impl ArrayRows {
     /// Those of an array whose innermost elements have this size. It takes time and memory by the
     /// entries in the array.
@@ -126,7 +120,7 @@ impl ArrayRows {
         ensures element { IfOk result (λ a. a.element ≡ element) }
     {
         let counts = counts_of(alloc, standing)?;
-        let sizes = sizes_of(alloc, counts.as_slice(), element)?;
+        let sizes = sizes_of(alloc, &counts, element)?;
         Ok(ArrayRows {
             counts,
             element,
@@ -153,7 +147,7 @@ impl ArrayRows {
     pub fn count(&self, skipped: usize) -> Option<Option<u128>>
         ensures { result ≡ slice_get self.now.counts skipped }
     {
-        count_at(self.counts.as_slice(), skipped)
+        self.counts.get(skipped)
     }
 
     /// The size without the first so many subranges in bytes, where there is one.

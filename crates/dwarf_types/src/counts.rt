@@ -1,6 +1,6 @@
 //! Counts of arrays (DWARF 4 sections 5.4 and 5.11).
 
-ghost use Rattle.std.specs.Prelude.{◌≡◌, ℕ, ◌≤ℤ◌, ◌<ℤ◌, ◌^◌, pos, filter, drop, find, IfSome};
+ghost use Rattle.std.specs.Prelude.{◌≡◌, ℕ, ◌≤◌, ◌≤ℤ◌, ◌<ℤ◌, ◌^◌, pos, filter, drop, find, IfSome};
 ghost use Rattle.std.specs.Option.{is_some};
 ghost use Rattle.dwarf_entries.specs.Names.{as_natural};
 ghost use Rattle.dwarf_entries.specs.Standing.{is_child};
@@ -14,7 +14,8 @@ use dwarf_info::{AttrValue, Attributes, Entry};
 
 /// A count that is not below 0.
 fn count(value: &AttrValue<'_>) -> Option<u128>
-    ensures { result ≡ as_natural value.now }
+    ensures count { result ≡ as_natural value.now }
+    ensures small { IfSome result (λ count. count ≤ 2 ^ 64) }
 {
     let count = as_natural(value)?;
     Some(u128::from(count))
@@ -22,7 +23,8 @@ fn count(value: &AttrValue<'_>) -> Option<u128>
 
 /// The count that an upper bound makes.
 fn count_to(bound: &AttrValue<'_>) -> Option<u128>
-    ensures { result ≡ counts.bound_count bound.now }
+    ensures count { result ≡ counts.bound_count bound.now }
+    ensures small { IfSome result (λ count. count ≤ 2 ^ 64) }
 {
     match bound {
         AttrValue::Constant(bound) => Some(u128::from(*bound) + 1),
@@ -37,9 +39,10 @@ fn count_to(bound: &AttrValue<'_>) -> Option<u128>
     }
 }
 
-/// The count of a subrange, where it is known: its count, or its upper bound and one more.
-pub fn subrange_count(entry: &Entry<'_>) -> Option<u128>
-    ensures { result ≡ counts.subrange_count entry.now }
+/// The count of a subrange, where it is known, which is at most 2^64.
+pub(crate) fn small_count(entry: &Entry<'_>) -> Option<u128>
+    ensures count { result ≡ counts.subrange_count entry.now }
+    ensures small { IfSome result (λ count. count ≤ 2 ^ 64) }
 {
     let attributes = &entry.attributes;
     match attribute(attributes, COUNT) {
@@ -49,6 +52,13 @@ pub fn subrange_count(entry: &Entry<'_>) -> Option<u128>
             count_to(&bound)
         }
     }
+}
+
+/// The count of a subrange, where it is known: its count, or its upper bound and one more.
+pub fn subrange_count(entry: &Entry<'_>) -> Option<u128>
+    ensures { result ≡ counts.subrange_count entry.now }
+{
+    small_count(entry)
 }
 
 /// Whether a subrange of an array of this depth is among the entries.

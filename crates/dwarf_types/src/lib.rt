@@ -7,6 +7,7 @@ mod behind;
 mod class;
 mod counts;
 mod enumerators;
+mod kept_counts;
 mod kind;
 mod shallow;
 mod size;

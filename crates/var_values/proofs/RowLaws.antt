@@ -1,14 +1,18 @@
 -- Steps through the rows of an array.
-use Rattle.std.proofs.Common.{◌≡◌, ℕ, zero, suc, ◌+◌, ◌-◌, ◌*◌, ◌<◌, ◌≤◌, Bool, true, false, List, [], ◌∷◌, ◌++◌, Option, Some, None, length, refl, sym, ap, ◌∙◌, append_assoc, subst, mul-le-mul_right, arith}
-use Rattle.std.specs.Prelude.{◌^◌, ◌↔◌, IsSome, nat_lt, if◌then◌else◌, map, reverse, codes}
+use Rattle.std.proofs.Common.{◌≡◌, ℕ, zero, suc, ◌+◌, ◌-◌, ◌*◌, ◌<◌, ◌≤◌, Bool, true, false, eqb, ltb, eq-eqb, ne_eqb, ltb-true, ltb-false, List, [], ◌∷◌, ◌++◌, Option, Some, None, length, get_or, refl, sym, ap, ◌∙◌, append_assoc, subst, mul-le-mul_right, arith}
+use Rattle.std.specs.Prelude.{◌^◌, ◌==◌, ◌≢◌, IfSome, nat_lt, if◌then◌else◌, map, reverse, slice_get, codes}
 use Rattle.std.specs.List.{flat_map, range_with_len}
-use Rattle.std.proofs.lemmas.List.{reverse-append, reverse-reverse, append-nil, length-append}
+use Rattle.std.proofs.lemmas.List.{reverse-append, append-nil, length-append, length-reverse, get_or-reverse}
+use Rattle.std.proofs.lemmas.Option.{slice_get-get_or}
 use Rattle.dwarf_types.specs.calls.Subranges.{Subranges}
 use Rattle.var_values.specs.declared.levels.Level.{Level}
 use Rattle.var_values.specs.declared.levels.OpenRow.{OpenRow}
+use Rattle.var_values.specs.declared.levels.BegunRow.{BegunRow}
 use Rattle.var_values.specs.declared.levels.Rows.{Rows}
 use Rattle.var_values.specs.Values.{braced, dots, shown_elements}
-use Rattle.var_values.specs.inner.Odometer.{shown, rows_text, later, ending, behind, left_at, left, row, whole, AreNested, AreOpen, IsSoundAt, IsSound, all_closed, AreSound, rows_left, bit, extent}
+use Rattle.var_values.proofs.BehindLaws.{levels_there, none_behind}
+use Rattle.var_values.specs.inner.Odometer.{shown, rows_text, later, ending, row_later, behind, pending_text, left_at, row, whole, AreNested, AreOpen, IsPending, IsSoundAt, levels_behind}
+use Rattle.var_values.specs.inner.Odometer.{level_at, finished, begun_row, kept, open_rows, rows_of, AreBelow, IsOther, AreSound, rows_left, bit, extent}
 
 -- what stands behind k elements from number i on
 abbrev pub run : (ℕ → List ℕ) → ℕ → ℕ → ℕ → List ℕ
@@ -64,63 +68,44 @@ unfolding rows_text
 rows_empty item l ls z none =
     ap (λ (n : ℕ). braced (map (λ i. rows_text item ls (z + i * l.step)) (range_with_len 0 (shown n)) ++ dots n)) none
 
--- ---- stacks with their top at the end
+-- ---- rows, the innermost first
 
-top : {A : Type 0} (xs : List A) (x : A) → reverse (xs ++ x ∷ []) ≡ x ∷ reverse xs
-top xs x = reverse-append xs (x ∷ [])
+pub row_begun : (item : ℕ → List ℕ) (rs : List OpenRow) (ls : List Level) (l : Level) (z : ℕ) → 0 < l.count
+    → left_at item (Some z) rs (l ∷ ls) ≡ codes "{" ++ left_at item (Some z) (row l z 1 ∷ rs) ls
+unfolding behind
+row_begun item rs ls l z some =
+    ap (λ (t : List ℕ). t ++ behind item rs (l ∷ ls)) (rows_begin item l ls z some)
+    ∙ ap (λ (t : List ℕ). codes "{" ++ t) (append_assoc (rows_text item ls z) (later (λ i. rows_text item ls (z + i * l.step)) 1 l.count) (behind item rs (l ∷ ls)))
 
-pub row_begun : (item : ℕ → List ℕ) (rows : List OpenRow) (closed : List Level) (l : Level) (z : ℕ) → 0 < l.count
-    → left item (Some z) rows (closed ++ l ∷ []) ≡ codes "{" ++ left item (Some z) (rows ++ row l z 1 ∷ []) closed
-unfolding left behind
-row_begun item rows closed l z some =
-    let ls = reverse closed in
-    let rs = reverse rows in
-    let first : ℕ → List ℕ = λ i. rows_text item ls (z + i * l.step) in
-    ap (λ (ks : List Level). left_at item (Some z) rs ks) (top closed l)
-    ∙ ap (λ (t : List ℕ). t ++ behind item rs (l ∷ ls)) (rows_begin item l ls z some)
-    ∙ ap (λ (t : List ℕ). codes "{" ++ t) (append_assoc (rows_text item ls z) (later first 1 l.count) (behind item rs (l ∷ ls)))
-    ∙ ap (λ (ks : List OpenRow). codes "{" ++ left_at item (Some z) ks ls) (sym (top rows (row l z 1)))
+pub row_empty : (item : ℕ → List ℕ) (rs : List OpenRow) (ls : List Level) (l : Level) (z : ℕ) → l.count ≡ 0
+    → left_at item (Some z) rs (l ∷ ls) ≡ codes "{}" ++ left_at item None rs (l ∷ ls)
+row_empty item rs ls l z none = ap (λ (t : List ℕ). t ++ behind item rs (l ∷ ls)) (rows_empty item l ls z none)
 
-pub row_empty : (item : ℕ → List ℕ) (rows : List OpenRow) (closed : List Level) (l : Level) (z : ℕ) → l.count ≡ 0
-    → left item (Some z) rows (closed ++ l ∷ []) ≡ codes "{}" ++ left item None rows (closed ++ l ∷ [])
-unfolding left
-row_empty item rows closed l z none =
-    let ls = reverse closed in
-    let rs = reverse rows in
-    ap (λ (ks : List Level). left_at item (Some z) rs ks) (top closed l)
-    ∙ ap (λ (t : List ℕ). t ++ behind item rs (l ∷ ls)) (rows_empty item l ls z none)
-    ∙ ap (λ (ks : List Level). codes "{}" ++ left_at item None rs ks) (sym (top closed l))
-
-pub row_goes_on : (item : ℕ → List ℕ) (rows : List OpenRow) (closed : List Level) (r : OpenRow) → r.next < shown r.level.count
-    → left item None (rows ++ r ∷ []) closed ≡ codes ", " ++ left item (Some (r.start + r.next * r.level.step)) (rows ++ row r.level r.start (r.next + 1) ∷ []) closed
-unfolding left behind
-row_goes_on item rows closed r lt =
-    let ls = reverse closed in
-    let rs = reverse rows in
-    let z = r.start + r.next * r.level.step in
+pub row_goes_on : (item : ℕ → List ℕ) (rs : List OpenRow) (ls : List Level) (r : OpenRow) → r.next < shown r.level.count
+    → left_at item None (r ∷ rs) ls ≡ codes ", " ++ left_at item (Some (r.start + r.next * r.level.step)) (row r.level r.start (r.next + 1) ∷ rs) ls
+unfolding behind
+row_goes_on item rs ls r lt =
     let text : ℕ → List ℕ = λ i. rows_text item ls (r.start + i * r.level.step) in
-    ap (λ (ks : List OpenRow). left_at item None ks ls) (top rows r)
-    ∙ ap (λ (t : List ℕ). t ++ behind item rs (r.level ∷ ls)) (one_later text r.next r.level.count lt)
+    ap (λ (t : List ℕ). t ++ behind item rs (r.level ∷ ls)) (one_later text r.next r.level.count lt)
     ∙ ap (λ (t : List ℕ). codes ", " ++ t) (append_assoc (text r.next) (later text (r.next + 1) r.level.count) (behind item rs (r.level ∷ ls)))
-    ∙ ap (λ (ks : List OpenRow). codes ", " ++ left_at item (Some z) ks ls) (sym (top rows (row r.level r.start (r.next + 1))))
 
-pub row_ends : (item : ℕ → List ℕ) (rows : List OpenRow) (closed : List Level) (r : OpenRow) → shown r.level.count ≤ r.next
-    → left item None (rows ++ r ∷ []) closed ≡ ending r.level.count ++ left item None rows (closed ++ r.level ∷ [])
-unfolding left behind
-row_ends item rows closed r le =
-    let ls = reverse closed in
-    let rs = reverse rows in
-    ap (λ (ks : List OpenRow). left_at item None ks ls) (top rows r)
-    ∙ ap (λ (t : List ℕ). t ++ behind item rs (r.level ∷ ls)) (none_later (λ i. rows_text item ls (r.start + i * r.level.step)) r.next r.level.count le)
-    ∙ ap (λ (ks : List Level). ending r.level.count ++ left_at item None rs ks) (sym (top closed r.level))
+pub row_ends : (item : ℕ → List ℕ) (rs : List OpenRow) (ls : List Level) (r : OpenRow) → shown r.level.count ≤ r.next
+    → left_at item None (r ∷ rs) ls ≡ ending r.level.count ++ left_at item None rs (r.level ∷ ls)
+unfolding behind
+row_ends item rs ls r le =
+    ap (λ (t : List ℕ). t ++ behind item rs (r.level ∷ ls)) (none_later (λ i. rows_text item ls (r.start + i * r.level.step)) r.next r.level.count le)
 
-pub row_item : (item : ℕ → List ℕ) (rows : List OpenRow) (z : ℕ) → left item (Some z) rows [] ≡ item z ++ left item None rows []
-unfolding left rows_text
-row_item item rows z = refl
+pub shown_most : (n : ℕ) → shown n ≤ n
+shown_most n = omega arith
 
-pub rows_end : (item : ℕ → List ℕ) (closed : List Level) → left item None [] closed ≡ []
-unfolding left behind
-rows_end item closed = refl
+-- of a row whose last element was begun it does not matter where it starts
+pub finished_left : (item : ℕ → List ℕ) (p : Option ℕ) (rs : List OpenRow) (ls : List Level) (r : OpenRow) → shown r.level.count ≤ r.next
+    → left_at item p (r ∷ rs) ls ≡ left_at item p (finished r.level ∷ rs) ls
+unfolding behind
+finished_left item p rs ls r le =
+    let n = r.level.count in
+    ap (λ (t : List ℕ). pending_text item p ls ++ (t ++ behind item rs (r.level ∷ ls)))
+    (none_later (λ i. rows_text item ls (r.start + i * r.level.step)) r.next n le ∙ sym (none_later (λ i. rows_text item ls (0 + i * r.level.step)) n n (shown_most n)))
 
 -- ---- offsets fit
 
@@ -149,115 +134,316 @@ goes_on_at rs ls r lt h =
 ends_at : (rs : List OpenRow) (ls : List Level) (r : OpenRow) → IsSoundAt None (r ∷ rs) ls → IsSoundAt None rs (r.level ∷ ls)
 ends_at rs ls r h = record { rows = h.rows.1; next = tt }
 
-begun_stacks : (rows : List OpenRow) (closed : List Level) (l : Level) (z : ℕ) → 0 < l.count → IsSound (Some z) rows (closed ++ l ∷ []) → IsSound (Some z) (rows ++ row l z 1 ∷ []) closed
-unfolding IsSound
-begun_stacks rows closed l z some h =
-    subst (λ (rs : List OpenRow). IsSoundAt (Some z) rs (reverse closed)) (sym (top rows (row l z 1)))
-    (begun_at (reverse rows) (reverse closed) l z some (subst (λ (ls : List Level). IsSoundAt (Some z) (reverse rows) ls) (top closed l) h))
+finished_at : (p : Option ℕ) (rs : List OpenRow) (ls : List Level) (r : OpenRow) → IsSoundAt p (r ∷ rs) ls → IsSoundAt p (finished r.level ∷ rs) ls
+finished_at p rs ls r h = record { rows = (omega (arith, h.rows.0), h.rows.1); next = h.next }
 
-pub begun_sound : (rows more : List OpenRow) (closed : List Level) (l : Level) (z : ℕ) → more ≡ rows ++ row l z 1 ∷ [] → 0 < l.count → IsSound (Some z) rows (closed ++ l ∷ [])
-    → IsSound (Some z) more closed
-begun_sound rows more closed l z are some h = subst (λ (rs : List OpenRow). IsSound (Some z) rs closed) (sym are) (begun_stacks rows closed l z some h)
+-- ---- what is kept of them
 
-empty_stacks : (rows : List OpenRow) (closed : List Level) (z : ℕ) → IsSound (Some z) rows closed → IsSound None rows closed
-unfolding IsSound
-empty_stacks rows closed z h = record { rows = h.rows; next = tt }
+-- the row of the innermost subrange, where it is kept
+open_kept : (a : Subranges) (p d : ℕ) (b : BegunRow) (bs : List BegunRow) → b.number ≡ p + d
+    → open_rows a p (suc d) (b ∷ bs) ≡ row (level_at a (p + d)) b.start b.next ∷ open_rows a p d bs
+unfolding open_rows
+open_kept a p d b bs is =
+    ap (λ (t : Bool). if t then row (level_at a (p + d)) b.start b.next ∷ open_rows a p d bs else finished (level_at a (p + d)) ∷ open_rows a p d (b ∷ bs)) (eq-eqb b.number (p + d) is)
 
-pub empty_sound : (rows : List OpenRow) (closed more : List Level) (l : Level) (z : ℕ) → more ≡ closed ++ l ∷ [] → IsSound (Some z) rows (closed ++ l ∷ []) → IsSound None rows more
-empty_sound rows closed more l z are h = subst (λ (ls : List Level). IsSound None rows ls) (sym are) (empty_stacks rows (closed ++ l ∷ []) z h)
+-- and where it is not
+open_finished : (a : Subranges) (p d : ℕ) (bs : List BegunRow) → AreBelow a (p + d) bs → open_rows a p (suc d) bs ≡ finished (level_at a (p + d)) ∷ open_rows a p d bs
+unfolding open_rows
+open_finished a p d [] below = refl
+open_finished a p d (b ∷ bs) below =
+    ap (λ (t : Bool). if t then row (level_at a (p + d)) b.start b.next ∷ open_rows a p d bs else finished (level_at a (p + d)) ∷ open_rows a p d (b ∷ bs))
+    (ne_eqb b.number (p + d) (λ same. omega (arith, below.0, same)))
 
-goes_on_stacks : (rows : List OpenRow) (closed : List Level) (r : OpenRow) → r.next < shown r.level.count → IsSound None (rows ++ r ∷ []) closed
-    → IsSound (Some (r.start + r.next * r.level.step)) (rows ++ row r.level r.start (r.next + 1) ∷ []) closed
-unfolding IsSound
-goes_on_stacks rows closed r lt h =
-    subst (λ (rs : List OpenRow). IsSoundAt (Some (r.start + r.next * r.level.step)) rs (reverse closed)) (sym (top rows (row r.level r.start (r.next + 1))))
-    (goes_on_at (reverse rows) (reverse closed) r lt (subst (λ (rs : List OpenRow). IsSoundAt None rs (reverse closed)) (top rows r) h))
+-- the same with the top at the end
+abbrev pub stack_kept : ℕ → OpenRow → List BegunRow → List BegunRow
+stack_kept n r bs = if nat_lt r.next (shown r.level.count) then begun_row n r ∷ bs else bs
 
-pub goes_on_sound : (rows more : List OpenRow) (closed : List Level) (r : OpenRow) (z : ℕ) → more ≡ rows ++ row r.level r.start (r.next + 1) ∷ [] → z ≡ r.start + r.next * r.level.step
-    → r.next < shown r.level.count → IsSound None (rows ++ r ∷ []) closed → IsSound (Some z) more closed
-goes_on_sound rows more closed r z are is lt h =
-    subst (λ (rs : List OpenRow). IsSound (Some z) rs closed) (sym are)
-    (subst (λ (y : ℕ). IsSound (Some y) (rows ++ row r.level r.start (r.next + 1) ∷ []) closed) (sym is) (goes_on_stacks rows closed r lt h))
+reversed_by : (t : Bool) (b : BegunRow) (rows : List BegunRow) → reverse (if t then rows ++ b ∷ [] else rows) ≡ (if t then b ∷ reverse rows else reverse rows)
+reversed_by true b rows = reverse-append rows (b ∷ [])
+reversed_by false b rows = refl
 
-pub goes_on_fits : (rows : List OpenRow) (closed : List Level) (r : OpenRow) → r.next < shown r.level.count → IsSound None (rows ++ r ∷ []) closed → r.start + r.next * r.level.step < 2 ^ 64
-unfolding IsSound
-goes_on_fits rows closed r lt h =
-    let at = goes_on_at (reverse rows) (reverse closed) r lt (subst (λ (rs : List OpenRow). IsSoundAt None rs (reverse closed)) (top rows r) h) in
+kept_reversed : (n : ℕ) (r : OpenRow) (rows : List BegunRow) → reverse (kept n r rows) ≡ stack_kept n r (reverse rows)
+kept_reversed n r rows = reversed_by (nat_lt r.next (shown r.level.count)) (begun_row n r) rows
+
+-- a property of the open rows with one more in front holds of what is kept of them, if it does not tell finished rows apart
+kept_by : (P : List OpenRow → Type 0) (a : Subranges) (p d n : ℕ) (r : OpenRow) (bs : List BegunRow) (t : Bool) → n ≡ p + d → r.level ≡ level_at a (p + d) → AreBelow a (p + d) bs
+    → (t ≡ false → P (r ∷ open_rows a p d bs) → P (finished r.level ∷ open_rows a p d bs)) → P (r ∷ open_rows a p d bs) → P (open_rows a p (suc d) (if t then begun_row n r ∷ bs else bs))
+kept_by P a p d n r bs true is level below alike h =
+    subst P (sym (open_kept a p d (begun_row n r) bs is)) (subst (λ (l : Level). P (row l r.start r.next ∷ open_rows a p d bs)) level h)
+kept_by P a p d n r bs false is level below alike h =
+    subst P (sym (open_finished a p d bs below)) (subst (λ (l : Level). P (finished l ∷ open_rows a p d bs)) level (alike refl h))
+
+kept_all : (P : List OpenRow → Type 0) (a : Subranges) (p d n : ℕ) (r : OpenRow) (rows new : List BegunRow) → n ≡ p + d → r.level ≡ level_at a (p + d) → AreBelow a (p + d) (reverse rows)
+    → new ≡ kept n r rows → (shown r.level.count ≤ r.next → P (r ∷ open_rows a p d (reverse rows)) → P (finished r.level ∷ open_rows a p d (reverse rows)))
+    → P (r ∷ open_rows a p d (reverse rows)) → P (open_rows a p (suc d) (reverse new))
+kept_all P a p d n r rows new is level below made alike h =
+    subst (λ (bs : List BegunRow). P (open_rows a p (suc d) bs)) (sym (ap reverse made ∙ kept_reversed n r rows))
+    (kept_by P a p d n r (reverse rows) (nat_lt r.next (shown r.level.count)) is level below (λ no. alike (ltb-false r.next (shown r.level.count) no)) h)
+
+below_by : (a : Subranges) (n m : ℕ) (r : OpenRow) (bs : List BegunRow) (t : Bool) → n < m → r.level ≡ level_at a n → (t ≡ true → r.next < shown r.level.count) → AreBelow a n bs
+    → AreBelow a m (if t then begun_row n r ∷ bs else bs)
+below_by a n m r bs true lt level more below = (lt, subst (λ (l : Level). r.next < shown l.count) level (more refl), below)
+below_by a n m r [] false lt level more below = tt
+below_by a n m r (b ∷ bs) false lt level more below = (omega (arith, lt, below.0), below.1, below.2)
+
+below_all : (a : Subranges) (n m : ℕ) (r : OpenRow) (rows new : List BegunRow) → n < m → r.level ≡ level_at a n → new ≡ kept n r rows → AreBelow a n (reverse rows) → AreBelow a m (reverse new)
+below_all a n m r rows new lt level made below =
+    subst (λ (bs : List BegunRow). AreBelow a m bs) (sym (ap reverse made ∙ kept_reversed n r rows))
+    (below_by a n m r (reverse rows) (nat_lt r.next (shown r.level.count)) lt level (λ yes. ltb-true r.next (shown r.level.count) yes) below)
+
+-- one that was not kept
+other_by : (a : Subranges) (n m : ℕ) (rows bs : List BegunRow) → reverse rows ≡ bs → m ≡ n + 1 → AreBelow a m bs → IsOther n rows → AreBelow a n bs
+other_by a n m rows [] is next below other = tt
+other_by a n m rows (b ∷ bs) is next below other =
+    let counted : length rows ≡ suc (length bs) = sym (length-reverse rows) ∙ ap length is in
+    let first : get_or (reverse rows) 0 b ≡ get_or rows (length rows - 1 - 0) b = get_or-reverse rows 0 b (omega (arith, counted)) in
+    let last : get_or rows (length rows - 1) b ≡ b = ap (λ (k : ℕ). get_or rows k b) (omega (arith, counted)) ∙ sym first ∙ ap (λ (xs : List BegunRow). get_or xs 0 b) is in
+    let there : slice_get rows (length rows - 1) ≡ Some b = slice_get-get_or rows (length rows - 1) b (omega (arith, counted)) ∙ ap Some last in
+    let no : b.number ≢ n = subst (λ (o : Option BegunRow). IfSome o (λ (b : BegunRow). b.number ≢ n)) there other in
+    (omega (arith, below.0, next, no), below.1, below.2)
+
+-- ---- by what is passed over and what is open
+
+at_numbers : (a : Subranges) (p d o m : ℕ) (x : Option ℕ) (bs : List BegunRow) → o - p ≡ d → o ≡ m → IsSoundAt x (open_rows a p d bs) (levels_behind a m)
+    → IsSoundAt x (open_rows a p (o - p) bs) (levels_behind a o)
+at_numbers a p d o m x bs less same h =
+    subst (λ (k : ℕ). IsSoundAt x (open_rows a p k bs) (levels_behind a o)) (sym less) (subst (λ (k : ℕ). IsSoundAt x (open_rows a p d bs) (levels_behind a k)) (sym same) h)
+
+of_numbers : (a : Subranges) (p d o m : ℕ) (x : Option ℕ) (bs : List BegunRow) → o - p ≡ d → o ≡ m → IsSoundAt x (open_rows a p (o - p) bs) (levels_behind a o)
+    → IsSoundAt x (open_rows a p d bs) (levels_behind a m)
+of_numbers a p d o m x bs less same h =
+    subst (λ (k : ℕ). IsSoundAt x (open_rows a p d bs) (levels_behind a k)) same (subst (λ (k : ℕ). IsSoundAt x (open_rows a p k bs) (levels_behind a o)) less h)
+
+left_numbers : (item : ℕ → List ℕ) (a : Subranges) (p d o m : ℕ) (x : Option ℕ) (bs : List BegunRow) → o - p ≡ d → o ≡ m
+    → left_at item x (open_rows a p (o - p) bs) (levels_behind a o) ≡ left_at item x (open_rows a p d bs) (levels_behind a m)
+left_numbers item a p d o m x bs less same =
+    ap (λ (k : ℕ). left_at item x (open_rows a p k bs) (levels_behind a o)) less ∙ ap (λ (k : ℕ). left_at item x (open_rows a p d bs) (levels_behind a k)) same
+
+-- ---- at the start
+
+none_open : (a : Subranges) (k d : ℕ) (bs : List BegunRow) → d ≡ 0 → AreNested (levels_behind a k) → whole (levels_behind a k) < 2 ^ 64 → IsSoundAt (Some 0) (open_rows a k d bs) (levels_behind a k)
+unfolding open_rows
+none_open a k zero bs is nested fits = record { rows = nested; next = omega (arith, fits) }
+none_open a k (suc d) bs is nested fits = absurd (omega (arith, is))
+
+pub new_sound : (a : Subranges) (k : ℕ) (rows : List BegunRow) → rows ≡ [] → AreNested (levels_behind a k) → whole (levels_behind a k) < 2 ^ 64
+    → AreSound a record { pending = Some 0; begun = rows; passed = k; opened = k }
+new_sound a k rows none nested fits = record {
+  fits = none_open a k (k - k) (reverse rows) (omega arith) nested fits;
+  order = omega arith;
+  within = λ lt. absurd (omega (arith, lt));
+  below = subst (λ (bs : List BegunRow). AreBelow a k (reverse bs)) (sym none) tt;
+}
+
+none_left : (item : ℕ → List ℕ) (a : Subranges) (k d : ℕ) (bs : List BegunRow) (ls : List Level) → d ≡ 0 → left_at item (Some 0) (open_rows a k d bs) ls ≡ rows_text item ls 0
+unfolding open_rows behind
+none_left item a k zero bs ls is = append-nil (rows_text item ls 0)
+none_left item a k (suc d) bs ls is = absurd (omega (arith, is))
+
+pub new_all : (item : ℕ → List ℕ) (a : Subranges) (k : ℕ) (rows : List BegunRow)
+    → left_at item (Some 0) (open_rows a k (k - k) (reverse rows)) (levels_behind a k) ≡ rows_text item (levels_behind a k) 0
+new_all item a k rows = none_left item a k (k - k) (reverse rows) (levels_behind a k) (omega arith)
+
+-- ---- a row begins
+
+-- behind what was written
+keeps_by : (old new written left rest : List ℕ) → new ≡ old ++ written → left ≡ written ++ rest → old ++ left ≡ new ++ rest
+keeps_by old new written left rest text are =
+    ap (λ (t : List ℕ). old ++ t) are ∙ sym (append_assoc old written rest) ∙ ap (λ (t : List ℕ). t ++ rest) (sym text)
+
+pub empty_keeps : (old new : List ℕ) (item : ℕ → List ℕ) (a : Subranges) (r : Rows) (l : Level) (z : ℕ) → new ≡ old ++ codes "{}" → r.pending ≡ Some z → l ≡ level_at a r.opened → l.count ≡ 0
+    → r.opened < length a.counts → old ++ rows_left item a r ≡ new ++ left_at item None (rows_of a r) (levels_behind a r.opened)
+empty_keeps old new item a r l z text is level none within =
+    let rs = rows_of a r in
+    let ls = levels_behind a (r.opened + 1) in
+    let there : levels_behind a r.opened ≡ l ∷ ls = levels_there a r.opened within ∙ ap (λ (k : Level). k ∷ ls) (sym level) in
+    keeps_by old new (codes "{}") (rows_left item a r) (left_at item None rs (levels_behind a r.opened)) text
+    (ap (λ (x : Option ℕ). left_at item x rs (levels_behind a r.opened)) is ∙ ap (λ (ks : List Level). left_at item (Some z) rs ks) there ∙ row_empty item rs ls l z none
+    ∙ ap (λ (ks : List Level). codes "{}" ++ left_at item None rs ks) (sym there))
+
+begun_fits : (a : Subranges) (p d o z : ℕ) (rows new : List BegunRow) (l : Level) → o ≡ p + d → l ≡ level_at a o → 0 < l.count → o < length a.counts → AreBelow a o (reverse rows) → new ≡ kept o (row l z 1) rows
+    → IsSoundAt (Some z) (open_rows a p d (reverse rows)) (levels_behind a o) → IsSoundAt (Some z) (open_rows a p (suc d) (reverse new)) (levels_behind a (o + 1))
+begun_fits a p d o z rows new l is level some within below made h =
+    let rs = open_rows a p d (reverse rows) in
+    let ls = levels_behind a (o + 1) in
+    let here : IsSoundAt (Some z) rs (l ∷ ls) = subst (λ (ks : List Level). IsSoundAt (Some z) rs ks) (levels_there a o within ∙ ap (λ (k : Level). k ∷ ls) (sym level)) h in
+    kept_all (λ (xs : List OpenRow). IsSoundAt (Some z) xs ls) a p d o (row l z 1) rows new is (level ∙ ap (level_at a) is) (subst (λ (k : ℕ). AreBelow a k (reverse rows)) is below) made
+    (λ le g. finished_at (Some z) rs ls (row l z 1) g) (begun_at rs ls l z some here)
+
+begun_left : (item : ℕ → List ℕ) (a : Subranges) (p d o z : ℕ) (rows new : List BegunRow) (l : Level) → o ≡ p + d → l ≡ level_at a o → 0 < l.count → o < length a.counts → AreBelow a o (reverse rows)
+    → new ≡ kept o (row l z 1) rows
+    → left_at item (Some z) (open_rows a p d (reverse rows)) (levels_behind a o) ≡ codes "{" ++ left_at item (Some z) (open_rows a p (suc d) (reverse new)) (levels_behind a (o + 1))
+begun_left item a p d o z rows new l is level some within below made =
+    let rs = open_rows a p d (reverse rows) in
+    let ls = levels_behind a (o + 1) in
+    ap (λ (ks : List Level). left_at item (Some z) rs ks) (levels_there a o within ∙ ap (λ (k : Level). k ∷ ls) (sym level)) ∙ row_begun item rs ls l z some
+    ∙ ap (λ (t : List ℕ). codes "{" ++ t)
+    (kept_all (λ (xs : List OpenRow). left_at item (Some z) (row l z 1 ∷ rs) ls ≡ left_at item (Some z) xs ls) a p d o (row l z 1) rows new is (level ∙ ap (level_at a) is)
+    (subst (λ (k : ℕ). AreBelow a k (reverse rows)) is below) made (λ le e. e ∙ finished_left item (Some z) rs ls (row l z 1) le) refl)
+
+pub begun_sound : (a : Subranges) (r : Rows) (l : Level) (z : ℕ) (new : List BegunRow) → r.pending ≡ Some z → l ≡ level_at a r.opened → 0 < l.count → r.opened < length a.counts
+    → new ≡ kept r.opened (row l z 1) r.begun → AreSound a r → AreSound a record { pending = r.pending; begun = new; passed = r.passed; opened = r.opened + 1 }
+begun_sound a r l z new is level some within made h =
+    let d = r.opened - r.passed in
+    let here : IsSoundAt (Some z) (open_rows a r.passed d (reverse r.begun)) (levels_behind a r.opened) = subst (λ (x : Option ℕ). IsSoundAt x (rows_of a r) (levels_behind a r.opened)) is h.fits in
+    let fits = begun_fits a r.passed d r.opened z r.begun new l (omega (arith, h.order)) level some within h.below made here in
+    record {
+      fits =
+          subst (λ (x : Option ℕ). IsSoundAt x (open_rows a r.passed (r.opened + 1 - r.passed) (reverse new)) (levels_behind a (r.opened + 1))) (sym is)
+          (at_numbers a r.passed (suc d) (r.opened + 1) (r.opened + 1) (Some z) (reverse new) (omega (arith, h.order)) refl fits);
+      order = omega (arith, h.order);
+      within = λ lt. omega (arith, within);
+      below = below_all a r.opened (r.opened + 1) (row l z 1) r.begun new (omega arith) level made h.below;
+    }
+
+pub begun_keeps : (old text : List ℕ) (item : ℕ → List ℕ) (a : Subranges) (r : Rows) (l : Level) (z : ℕ) (new : List BegunRow) → text ≡ old ++ codes "{" → r.pending ≡ Some z → l ≡ level_at a r.opened
+    → 0 < l.count → r.opened < length a.counts → new ≡ kept r.opened (row l z 1) r.begun → AreSound a r
+    → old ++ rows_left item a r ≡ text ++ left_at item r.pending (open_rows a r.passed (r.opened + 1 - r.passed) (reverse new)) (levels_behind a (r.opened + 1))
+begun_keeps old text item a r l z new written is level some within made h =
+    let d = r.opened - r.passed in
+    let there = open_rows a r.passed (r.opened + 1 - r.passed) (reverse new) in
+    let ls = levels_behind a (r.opened + 1) in
+    keeps_by old text (codes "{") (rows_left item a r) (left_at item r.pending there ls) written
+    (ap (λ (x : Option ℕ). left_at item x (rows_of a r) (levels_behind a r.opened)) is
+    ∙ begun_left item a r.passed d r.opened z r.begun new l (omega (arith, h.order)) level some within h.below made
+    ∙ ap (λ (t : List ℕ). codes "{" ++ t) (sym (left_numbers item a r.passed (suc d) (r.opened + 1) (r.opened + 1) (Some z) (reverse new) (omega (arith, h.order)) refl))
+    ∙ ap (λ (x : Option ℕ). codes "{" ++ left_at item x there ls) (sym is))
+
+-- ---- a row ends
+
+-- the innermost row, whose last element was begun
+ended_open : (a : Subranges) (r : Rows) (n : ℕ) → r.opened ≡ n + 1 → r.passed < r.opened → AreSound a r → IsOther n r.begun
+    → open_rows a r.passed (suc (n - r.passed)) (reverse r.begun) ≡ finished (level_at a n) ∷ open_rows a r.passed (n - r.passed) (reverse r.begun)
+ended_open a r n is lt h other =
+    let below : AreBelow a n (reverse r.begun) = other_by a n r.opened r.begun (reverse r.begun) refl is h.below other in
+    let same : n ≡ r.passed + (n - r.passed) = omega (arith, is, lt) in
+    open_finished a r.passed (n - r.passed) (reverse r.begun) (subst (λ (k : ℕ). AreBelow a k (reverse r.begun)) same below)
+    ∙ ap (λ (k : ℕ). finished (level_at a k) ∷ open_rows a r.passed (n - r.passed) (reverse r.begun)) (sym same)
+
+pub ended_sound : (a : Subranges) (r : Rows) (n : ℕ) (new : List BegunRow) → r.pending ≡ None → r.opened ≡ n + 1 → r.passed < r.opened → new ≡ r.begun → IsOther n r.begun → AreSound a r
+    → AreSound a record { pending = r.pending; begun = new; passed = r.passed; opened = n }
+ended_sound a r n new none is lt made other h =
+    let d = n - r.passed in
+    let rs = open_rows a r.passed d (reverse r.begun) in
+    let l = level_at a n in
+    let short : n < length a.counts = omega (arith, h.within lt, is) in
+    let here : IsSoundAt None (open_rows a r.passed (suc d) (reverse r.begun)) (levels_behind a (n + 1)) =
+    of_numbers a r.passed (suc d) r.opened (n + 1) None (reverse r.begun) (omega (arith, is, lt)) is
+    (subst (λ (x : Option ℕ). IsSoundAt x (rows_of a r) (levels_behind a r.opened)) none h.fits) in
+    let ended : IsSoundAt None rs (l ∷ levels_behind a (n + 1)) = ends_at rs (levels_behind a (n + 1)) (finished l) (subst (λ (xs : List OpenRow). IsSoundAt None xs (levels_behind a (n + 1))) (ended_open a r n is lt h other) here) in
+    subst (λ (bs : List BegunRow). AreSound a record { pending = r.pending; begun = bs; passed = r.passed; opened = n }) (sym made)
+    record {
+      fits =
+          subst (λ (x : Option ℕ). IsSoundAt x rs (levels_behind a n)) (sym none) (subst (λ (ks : List Level). IsSoundAt None rs ks) (sym (levels_there a n short)) ended);
+      order = omega (arith, is, lt);
+      within = λ less. omega (arith, short);
+      below = other_by a n r.opened r.begun (reverse r.begun) refl is h.below other;
+    }
+
+pub ended_keeps : (old text : List ℕ) (item : ℕ → List ℕ) (a : Subranges) (r : Rows) (l : Level) (n : ℕ) (new : List BegunRow) → text ≡ old ++ ending l.count → l ≡ level_at a n → r.pending ≡ None → r.opened ≡ n + 1
+    → r.passed < r.opened → new ≡ r.begun → IsOther n r.begun → AreSound a r
+    → old ++ rows_left item a r ≡ text ++ left_at item r.pending (open_rows a r.passed (n - r.passed) (reverse new)) (levels_behind a n)
+ended_keeps old text item a r l n new written level none is lt made other h =
+    let d = n - r.passed in
+    let rs = open_rows a r.passed d (reverse r.begun) in
+    let ls = levels_behind a (n + 1) in
+    let short : n < length a.counts = omega (arith, h.within lt, is) in
+    let there : l ∷ ls ≡ levels_behind a n = ap (λ (k : Level). k ∷ ls) level ∙ sym (levels_there a n short) in
+    keeps_by old text (ending l.count) (rows_left item a r) (left_at item r.pending (open_rows a r.passed d (reverse new)) (levels_behind a n)) written
+    (ap (λ (x : Option ℕ). left_at item x (rows_of a r) (levels_behind a r.opened)) none
+    ∙ left_numbers item a r.passed (suc d) r.opened (n + 1) None (reverse r.begun) (omega (arith, is, lt)) is
+    ∙ ap (λ (xs : List OpenRow). left_at item None xs ls) (ended_open a r n is lt h other ∙ ap (λ (k : Level). finished k ∷ rs) (sym level))
+    ∙ row_ends item rs ls (finished l) (shown_most l.count)
+    ∙ ap (λ (ks : List Level). ending l.count ++ left_at item None rs ks) there
+    ∙ ap (λ (bs : List BegunRow). ending l.count ++ left_at item None (open_rows a r.passed d (reverse bs)) (levels_behind a n)) (sym made)
+    ∙ ap (λ (x : Option ℕ). ending l.count ++ left_at item x (open_rows a r.passed d (reverse new)) (levels_behind a n)) (sym none))
+
+-- ---- a row goes on
+
+-- what is known of the row that was taken
+pub record IsTaken (a : Subranges) (r : Rows) (n : ℕ) (l : Level) (b : BegunRow) (rest : List BegunRow) : Type 0 where
+  pub none : r.pending ≡ None
+  pub number : r.opened ≡ n + 1
+  pub «open» : r.passed < r.opened
+  pub level : l ≡ level_at a n
+  pub was : r.begun ≡ rest ++ b ∷ []
+  pub same : b.number ≡ n
+
+taken_below : (a : Subranges) (r : Rows) (n : ℕ) (l : Level) (b : BegunRow) (rest : List BegunRow) → IsTaken a r n l b rest → AreSound a r → AreBelow a r.opened (b ∷ reverse rest)
+taken_below a r n l b rest t h = subst (λ (bs : List BegunRow). AreBelow a r.opened bs) (ap reverse t.was ∙ reverse-append rest (b ∷ [])) h.below
+
+pub taken_more : (a : Subranges) (r : Rows) (n : ℕ) (l : Level) (b : BegunRow) (rest : List BegunRow) → IsTaken a r n l b rest → AreSound a r → b.next < shown l.count
+taken_more a r n l b rest t h =
+    subst (λ (k : Level). b.next < shown k.count) (sym (t.level ∙ ap (level_at a) (sym t.same))) ((taken_below a r n l b rest t h).1)
+
+taken_rest : (a : Subranges) (r : Rows) (n : ℕ) (l : Level) (b : BegunRow) (rest : List BegunRow) → IsTaken a r n l b rest → AreSound a r → AreBelow a n (reverse rest)
+taken_rest a r n l b rest t h = subst (λ (k : ℕ). AreBelow a k (reverse rest)) t.same ((taken_below a r n l b rest t h).2)
+
+taken_open : (a : Subranges) (r : Rows) (n : ℕ) (l : Level) (b : BegunRow) (rest : List BegunRow) → IsTaken a r n l b rest
+    → open_rows a r.passed (suc (n - r.passed)) (reverse r.begun) ≡ row l b.start b.next ∷ open_rows a r.passed (n - r.passed) (reverse rest)
+taken_open a r n l b rest t =
+    let d = n - r.passed in
+    let same : n ≡ r.passed + d = omega (arith, t.number, t.«open») in
+    ap (open_rows a r.passed (suc d)) (ap reverse t.was ∙ reverse-append rest (b ∷ [])) ∙ open_kept a r.passed d b (reverse rest) (t.same ∙ same)
+    ∙ ap (λ (k : Level). row k b.start b.next ∷ open_rows a r.passed d (reverse rest)) (ap (level_at a) (sym same) ∙ sym t.level)
+
+taken_fits : (a : Subranges) (r : Rows) (n : ℕ) (l : Level) (b : BegunRow) (rest : List BegunRow) → IsTaken a r n l b rest → AreSound a r
+    → IsSoundAt None (row l b.start b.next ∷ open_rows a r.passed (n - r.passed) (reverse rest)) (levels_behind a (n + 1))
+taken_fits a r n l b rest t h =
+    let d = n - r.passed in
+    subst (λ (xs : List OpenRow). IsSoundAt None xs (levels_behind a (n + 1))) (taken_open a r n l b rest t)
+    (of_numbers a r.passed (suc d) r.opened (n + 1) None (reverse r.begun) (omega (arith, t.number, t.«open»)) t.number
+    (subst (λ (x : Option ℕ). IsSoundAt x (rows_of a r) (levels_behind a r.opened)) t.none h.fits))
+
+pub next_fits : (a : Subranges) (r : Rows) (n : ℕ) (l : Level) (b : BegunRow) (rest : List BegunRow) → IsTaken a r n l b rest → AreSound a r → b.start + b.next * l.step < 2 ^ 64
+next_fits a r n l b rest t h =
+    let rs = open_rows a r.passed (n - r.passed) (reverse rest) in
+    let at = goes_on_at rs (levels_behind a (n + 1)) (row l b.start b.next) (taken_more a r n l b rest t h) (taken_fits a r n l b rest t h) in
     omega (arith, at.next)
 
-ends_stacks : (rows : List OpenRow) (closed : List Level) (r : OpenRow) → IsSound None (rows ++ r ∷ []) closed → IsSound None rows (closed ++ r.level ∷ [])
-unfolding IsSound
-ends_stacks rows closed r h =
-    subst (λ (ls : List Level). IsSoundAt None (reverse rows) ls) (sym (top closed r.level))
-    (ends_at (reverse rows) (reverse closed) r (subst (λ (rs : List OpenRow). IsSoundAt None rs (reverse closed)) (top rows r) h))
+pub next_sound : (a : Subranges) (r : Rows) (n : ℕ) (l : Level) (b : BegunRow) (rest new : List BegunRow) (x : Option ℕ) → IsTaken a r n l b rest → x ≡ Some (b.start + b.next * l.step)
+    → new ≡ kept n (row l b.start (b.next + 1)) rest → AreSound a r → AreSound a record { pending = x; begun = new; passed = r.passed; opened = r.opened }
+next_sound a r n l b rest new x t is made h =
+    let d = n - r.passed in
+    let rs = open_rows a r.passed d (reverse rest) in
+    let ls = levels_behind a (n + 1) in
+    let z = b.start + b.next * l.step in
+    let next = row l b.start (b.next + 1) in
+    let same : n ≡ r.passed + d = omega (arith, t.number, t.«open») in
+    let at : IsSoundAt (Some z) (next ∷ rs) ls = goes_on_at rs ls (row l b.start b.next) (taken_more a r n l b rest t h) (taken_fits a r n l b rest t h) in
+    let all : IsSoundAt (Some z) (open_rows a r.passed (suc d) (reverse new)) ls =
+    kept_all (λ (xs : List OpenRow). IsSoundAt (Some z) xs ls) a r.passed d n next rest new same (t.level ∙ ap (level_at a) same)
+    (subst (λ (k : ℕ). AreBelow a k (reverse rest)) same (taken_rest a r n l b rest t h)) made (λ le g. finished_at (Some z) rs ls next g) at in
+    record {
+      fits =
+          subst (λ (y : Option ℕ). IsSoundAt y (open_rows a r.passed (r.opened - r.passed) (reverse new)) (levels_behind a r.opened)) (sym is)
+          (at_numbers a r.passed (suc d) r.opened (n + 1) (Some z) (reverse new) (omega (arith, t.number, t.«open»)) t.number all);
+      order = h.order;
+      within = h.within;
+      below = below_all a n r.opened next rest new (omega (arith, t.number)) t.level made (taken_rest a r n l b rest t h);
+    }
 
-pub ends_sound : (rows : List OpenRow) (closed more : List Level) (r : OpenRow) → more ≡ closed ++ r.level ∷ [] → IsSound None (rows ++ r ∷ []) closed → IsSound None rows more
-ends_sound rows closed more r are h = subst (λ (ls : List Level). IsSound None rows ls) (sym are) (ends_stacks rows closed r h)
-
-all_sound : (closed : List Level) → AreNested (reverse closed) → whole (reverse closed) < 2 ^ 64 → IsSound (Some 0) [] closed
-unfolding IsSound
-all_sound closed nested fits = record { rows = nested; next = omega (arith, fits) }
-
--- none is begun yet
-fresh : (ls own : List Level) → own ≡ [] → reverse ls ++ own ≡ reverse ls
-fresh ls own none = ap (λ (xs : List Level). reverse ls ++ xs) none ∙ append-nil (reverse ls)
-
-pub new_sound : (rows : List OpenRow) (ls own : List Level) → rows ≡ [] → own ≡ [] → AreNested ls → whole ls < 2 ^ 64 → IsSound (Some 0) rows (reverse ls ++ own)
-new_sound rows ls own none empty nested fits =
-    subst (λ (rs : List OpenRow). IsSound (Some 0) rs (reverse ls ++ own)) (sym none)
-    (subst (λ (xs : List Level). IsSound (Some 0) [] xs) (sym (fresh ls own empty))
-    (all_sound (reverse ls) (subst AreNested (sym (reverse-reverse ls)) nested) (subst (λ (xs : List Level). whole xs < 2 ^ 64) (sym (reverse-reverse ls)) fits)))
-
-all_left : (item : ℕ → List ℕ) (closed : List Level) → left item (Some 0) [] closed ≡ rows_text item (reverse closed) 0
-unfolding left behind
-all_left item closed = append-nil (rows_text item (reverse closed) 0)
-
-pub new_all : (item : ℕ → List ℕ) (rows : List OpenRow) (ls own : List Level) → rows ≡ [] → own ≡ [] → left item (Some 0) rows (reverse ls ++ own) ≡ rows_text item ls 0
-new_all item rows ls own none empty =
-    ap (λ (rs : List OpenRow). left item (Some 0) rs (reverse ls ++ own)) none ∙ ap (left item (Some 0) []) (fresh ls own empty) ∙ all_left item (reverse ls)
-    ∙ ap (λ (xs : List Level). rows_text item xs 0) (reverse-reverse ls)
-
--- one more that is closed again
-pub closed_more : (front own more : List Level) (l : Level) → more ≡ own ++ l ∷ [] → front ++ more ≡ (front ++ own) ++ l ∷ []
-closed_more front own more l is = ap (λ (xs : List Level). front ++ xs) is ∙ sym (append_assoc front own (l ∷ []))
-
--- ---- what is written
-
-pub empty_keeps : (old new : List ℕ) (item : ℕ → List ℕ) (rows : List OpenRow) (closed more : List Level) (l : Level) (z : ℕ) → new ≡ old ++ codes "{}" → more ≡ closed ++ l ∷ [] → l.count ≡ 0
-    → old ++ left item (Some z) rows (closed ++ l ∷ []) ≡ new ++ left item None rows more
-empty_keeps old new item rows closed more l z text are none =
-    ap (λ (t : List ℕ). old ++ t) (row_empty item rows closed l z none)
-    ∙ sym (append_assoc old (codes "{}") (left item None rows (closed ++ l ∷ [])))
-    ∙ ap (λ (t : List ℕ). t ++ left item None rows (closed ++ l ∷ [])) (sym text)
-    ∙ ap (λ (ls : List Level). new ++ left item None rows ls) (sym are)
-
-pub begun_keeps : (old new : List ℕ) (item : ℕ → List ℕ) (rows more : List OpenRow) (closed : List Level) (l : Level) (z : ℕ) → new ≡ old ++ codes "{" → more ≡ rows ++ row l z 1 ∷ [] → 0 < l.count
-    → old ++ left item (Some z) rows (closed ++ l ∷ []) ≡ new ++ left item (Some z) more closed
-begun_keeps old new item rows more closed l z text are some =
-    ap (λ (t : List ℕ). old ++ t) (row_begun item rows closed l z some)
-    ∙ sym (append_assoc old (codes "{") (left item (Some z) (rows ++ row l z 1 ∷ []) closed))
-    ∙ ap (λ (t : List ℕ). t ++ left item (Some z) (rows ++ row l z 1 ∷ []) closed) (sym text)
-    ∙ ap (λ (rs : List OpenRow). new ++ left item (Some z) rs closed) (sym are)
-
-pub goes_on_keeps : (old new : List ℕ) (item : ℕ → List ℕ) (rows more : List OpenRow) (closed : List Level) (r : OpenRow) (z : ℕ) → new ≡ old ++ codes ", "
-    → more ≡ rows ++ row r.level r.start (r.next + 1) ∷ [] → z ≡ r.start + r.next * r.level.step → r.next < shown r.level.count
-    → old ++ left item None (rows ++ r ∷ []) closed ≡ new ++ left item (Some z) more closed
-goes_on_keeps old new item rows more closed r z text are is lt =
-    let next = row r.level r.start (r.next + 1) in
-    let there = r.start + r.next * r.level.step in
-    ap (λ (t : List ℕ). old ++ t) (row_goes_on item rows closed r lt)
-    ∙ sym (append_assoc old (codes ", ") (left item (Some there) (rows ++ next ∷ []) closed))
-    ∙ ap (λ (t : List ℕ). t ++ left item (Some there) (rows ++ next ∷ []) closed) (sym text)
-    ∙ ap (λ (rs : List OpenRow). new ++ left item (Some there) rs closed) (sym are)
-    ∙ ap (λ (y : ℕ). new ++ left item (Some y) more closed) (sym is)
-
-pub ends_keeps : (old new : List ℕ) (item : ℕ → List ℕ) (rows : List OpenRow) (closed more : List Level) (r : OpenRow) → new ≡ old ++ ending r.level.count → more ≡ closed ++ r.level ∷ []
-    → shown r.level.count ≤ r.next → old ++ left item None (rows ++ r ∷ []) closed ≡ new ++ left item None rows more
-ends_keeps old new item rows closed more r text are le =
-    ap (λ (t : List ℕ). old ++ t) (row_ends item rows closed r le)
-    ∙ sym (append_assoc old (ending r.level.count) (left item None rows (closed ++ r.level ∷ [])))
-    ∙ ap (λ (t : List ℕ). t ++ left item None rows (closed ++ r.level ∷ [])) (sym text)
-    ∙ ap (λ (ls : List Level). new ++ left item None rows ls) (sym are)
+pub next_keeps : (old text : List ℕ) (item : ℕ → List ℕ) (a : Subranges) (r : Rows) (n : ℕ) (l : Level) (b : BegunRow) (rest new : List BegunRow) (x : Option ℕ) → text ≡ old ++ codes ", "
+    → IsTaken a r n l b rest → x ≡ Some (b.start + b.next * l.step) → new ≡ kept n (row l b.start (b.next + 1)) rest → AreSound a r
+    → old ++ rows_left item a r ≡ text ++ left_at item x (open_rows a r.passed (r.opened - r.passed) (reverse new)) (levels_behind a r.opened)
+next_keeps old text item a r n l b rest new x written t is made h =
+    let d = n - r.passed in
+    let rs = open_rows a r.passed d (reverse rest) in
+    let ls = levels_behind a (n + 1) in
+    let z = b.start + b.next * l.step in
+    let next = row l b.start (b.next + 1) in
+    let less : r.opened - r.passed ≡ suc d = omega (arith, t.number, t.«open») in
+    let same : n ≡ r.passed + d = omega (arith, t.number, t.«open») in
+    let kept_left : left_at item (Some z) (next ∷ rs) ls ≡ left_at item (Some z) (open_rows a r.passed (suc d) (reverse new)) ls =
+    kept_all (λ (xs : List OpenRow). left_at item (Some z) (next ∷ rs) ls ≡ left_at item (Some z) xs ls) a r.passed d n next rest new same (t.level ∙ ap (level_at a) same)
+    (subst (λ (k : ℕ). AreBelow a k (reverse rest)) same (taken_rest a r n l b rest t h)) made (λ le e. e ∙ finished_left item (Some z) rs ls next le) refl in
+    keeps_by old text (codes ", ") (rows_left item a r) (left_at item x (open_rows a r.passed (r.opened - r.passed) (reverse new)) (levels_behind a r.opened)) written
+    (ap (λ (y : Option ℕ). left_at item y (rows_of a r) (levels_behind a r.opened)) t.none
+    ∙ left_numbers item a r.passed (suc d) r.opened (n + 1) None (reverse r.begun) less t.number
+    ∙ ap (λ (xs : List OpenRow). left_at item None xs ls) (taken_open a r n l b rest t)
+    ∙ row_goes_on item rs ls (row l b.start b.next) (taken_more a r n l b rest t h)
+    ∙ ap (λ (s : List ℕ). codes ", " ++ s) (kept_left ∙ sym (left_numbers item a r.passed (suc d) r.opened (n + 1) (Some z) (reverse new) less t.number))
+    ∙ ap (λ (y : Option ℕ). codes ", " ++ left_at item y (open_rows a r.passed (r.opened - r.passed) (reverse new)) (levels_behind a r.opened)) (sym is))
 
 -- ---- steps
 
@@ -265,59 +451,29 @@ small_bit : (p : Option ℕ) → bit p ≤ 1
 small_bit None = omega arith
 small_bit (Some z) = omega arith
 
-pub step_falls : (a : Subranges) (r new : Rows) (text mid all : List ℕ) → rows_left (λ z. []) a r ≡ all → length text < length mid → text ++ all ≡ mid ++ rows_left (λ z. []) a new → extent a new < extent a r
-step_falls a r new text mid all is more keeps =
-    let lengths : length text + length all ≡ length mid + length (rows_left (λ z. []) a new) = sym (length-append text all) ∙ ap length keeps ∙ length-append mid (rows_left (λ z. []) a new) in
-    let same : length (rows_left (λ z. []) a r) ≡ length all = ap length is in
+pub step_falls : (a : Subranges) (r new : Rows) (text mid : List ℕ) → length text < length mid → text ++ rows_left (λ z. []) a r ≡ mid ++ rows_left (λ z. []) a new → extent a new < extent a r
+step_falls a r new text mid more keeps =
+    let lengths : length text + length (rows_left (λ z. []) a r) ≡ length mid + length (rows_left (λ z. []) a new) =
+    sym (length-append text (rows_left (λ z. []) a r)) ∙ ap length keeps ∙ length-append mid (rows_left (λ z. []) a new) in
     let bit : bit new.pending ≤ 1 = small_bit new.pending in
-    omega (arith, lengths, same, bit, more)
+    omega (arith, lengths, bit, more)
 
--- what is left where a level was taken
-pub pending_left : (item : ℕ → List ℕ) (a : Subranges) (r taken : Rows) (z : ℕ) (closed : List Level) → r.pending ≡ Some z → taken.begun ≡ r.begun → all_closed a r ≡ closed
-    → rows_left item a r ≡ left item (Some z) taken.begun closed
-pending_left item a r taken z closed is same are =
-    ap (λ (p : Option ℕ). left item p r.begun (all_closed a r)) is ∙ ap (λ (ls : List Level). left item (Some z) r.begun ls) are ∙ ap (λ (rs : List OpenRow). left item (Some z) rs closed) (sym same)
+row_item : (item : ℕ → List ℕ) (rs : List OpenRow) (z : ℕ) → left_at item (Some z) rs [] ≡ item z ++ left_at item None rs []
+unfolding rows_text
+row_item item rs z = refl
 
-pub pending_sound : (a : Subranges) (r taken : Rows) (z : ℕ) (closed : List Level) → r.pending ≡ Some z → taken.begun ≡ r.begun → all_closed a r ≡ closed → AreSound a r
-    → IsSound (Some z) taken.begun closed
-pending_sound a r taken z closed is same are h =
-    subst (λ (rs : List OpenRow). IsSound (Some z) rs closed) (sym same)
-    (subst (λ (ls : List Level). IsSound (Some z) r.begun ls) are (subst (λ (p : Option ℕ). IsSound p r.begun (all_closed a r)) is h))
+pub element_left : (item : ℕ → List ℕ) (a : Subranges) (r : Rows) (z : ℕ) → r.pending ≡ Some z → length a.counts ≤ r.opened
+    → rows_left item a r ≡ item z ++ left_at item None (rows_of a r) (levels_behind a r.opened)
+element_left item a r z is past =
+    let none : levels_behind a r.opened ≡ [] = none_behind a r.opened past in
+    ap (λ (x : Option ℕ). left_at item x (rows_of a r) (levels_behind a r.opened)) is ∙ ap (λ (ls : List Level). left_at item (Some z) (rows_of a r) ls) none ∙ row_item item (rows_of a r) z
+    ∙ ap (λ (ls : List Level). item z ++ left_at item None (rows_of a r) ls) (sym none)
 
-pub begun_left : (item : ℕ → List ℕ) (a : Subranges) (r : Rows) (rows : List OpenRow) → r.pending ≡ None → r.begun ≡ rows → rows_left item a r ≡ left item None rows (all_closed a r)
-begun_left item a r rows is are =
-    ap (λ (p : Option ℕ). left item p r.begun (all_closed a r)) is ∙ ap (λ (rs : List OpenRow). left item None rs (all_closed a r)) are
+ended_by : (item : ℕ → List ℕ) (a : Subranges) (p d : ℕ) (bs : List BegunRow) (ls : List Level) → d ≡ 0 → left_at item None (open_rows a p d bs) ls ≡ []
+unfolding open_rows behind
+ended_by item a p zero bs ls is = refl
+ended_by item a p (suc d) bs ls is = absurd (omega (arith, is))
 
-pub begun_open : (a : Subranges) (r : Rows) (rows : List OpenRow) → r.pending ≡ None → r.begun ≡ rows → AreSound a r → IsSound None rows (all_closed a r)
-begun_open a r rows is are h =
-    subst (λ (rs : List OpenRow). IsSound None rs (all_closed a r)) are (subst (λ (p : Option ℕ). IsSound p r.begun (all_closed a r)) is h)
-
-pub popped_sound : (a : Subranges) (r : Rows) (rows : List OpenRow) → r.begun ≡ rows → AreSound a r → IsSound r.pending rows (all_closed a r)
-popped_sound a r rows are h = subst (λ (rs : List OpenRow). IsSound r.pending rs (all_closed a r)) are h
-
-pub was_empty : {A : Type 0} (xs rest : List A) → xs ≡ rest ++ [] → (IsSome {T = A} None ↔ (0 < length xs)) → rest ≡ []
-was_empty [] rest is iff = sym (is ∙ append-nil rest)
-was_empty (x ∷ xs) rest is iff = absurd (let no : false ≡ true = iff.1 (omega arith) in cc)
-
-pub element_left : (item : ℕ → List ℕ) (a : Subranges) (r taken : Rows) (z : ℕ) → r.pending ≡ Some z → taken.begun ≡ r.begun → all_closed a r ≡ all_closed a taken ++ [] → (IsSome {T = Level} None ↔ (0 < length (all_closed a r)))
-    → rows_left item a r ≡ item z ++ left item None taken.begun (all_closed a taken)
-element_left item a r taken z is same are iff =
-    let none : all_closed a taken ≡ [] = was_empty (all_closed a r) (all_closed a taken) are iff in
-    pending_left item a r taken z [] is same (are ∙ append-nil (all_closed a taken) ∙ none) ∙ row_item item taken.begun z
-    ∙ ap (λ (ls : List Level). item z ++ left item None taken.begun ls) (sym none)
-
-pub element_falls : (a : Subranges) (r taken new : Rows) (z : ℕ) → r.pending ≡ Some z → taken.begun ≡ r.begun → all_closed a r ≡ all_closed a taken ++ [] → (IsSome {T = Level} None ↔ (0 < length (all_closed a r)))
-    → new.pending ≡ None → rows_left (λ z. []) a new ≡ left (λ z. []) None taken.begun (all_closed a taken) → extent a new < extent a r
-element_falls a r taken new z is same are iff none here =
-    let lengths : length (rows_left (λ z. []) a r) ≡ length (rows_left (λ z. []) a new) = ap length (element_left (λ z. []) a r taken z is same are iff ∙ sym here) in
-    let one : bit r.pending ≡ 1 = ap bit is in
-    let zero : bit new.pending ≡ 0 = ap bit none in
-    omega (arith, lengths, one, zero)
-
-pub element_sound : (a : Subranges) (r taken : Rows) (z : ℕ) → r.pending ≡ Some z → taken.begun ≡ r.begun → all_closed a r ≡ all_closed a taken ++ [] → AreSound a r → IsSound None taken.begun (all_closed a taken)
-element_sound a r taken z is same are h =
-    empty_stacks taken.begun (all_closed a taken) z (pending_sound a r taken z (all_closed a taken) is same (are ∙ append-nil (all_closed a taken)) h)
-
-pub end_left : (item : ℕ → List ℕ) (a : Subranges) (r : Rows) (rest : List OpenRow) → r.pending ≡ None → r.begun ≡ rest ++ [] → (IsSome {T = OpenRow} None ↔ (0 < length r.begun)) → rows_left item a r ≡ []
-end_left item a r rest is are iff =
-    begun_left item a r [] is (are ∙ append-nil rest ∙ was_empty r.begun rest are iff) ∙ rows_end item (all_closed a r)
+pub end_left : (item : ℕ → List ℕ) (a : Subranges) (r : Rows) → r.pending ≡ None → r.opened ≤ r.passed → rows_left item a r ≡ []
+end_left item a r none le =
+    ap (λ (x : Option ℕ). left_at item x (rows_of a r) (levels_behind a r.opened)) none ∙ ended_by item a r.passed (r.opened - r.passed) (reverse r.begun) (levels_behind a r.opened) (omega (arith, le))

@@ -20,6 +20,17 @@ pub struct OpenRow {
     pub next: u64,
 }
 
+/// What is kept of a row of which more elements are to be begun.
+#[derive(Clone, Copy, Debug, Drop)]
+pub struct BegunRow {
+    /// The number of its subrange.
+    pub number: usize,
+    /// In bytes from the start of the array on.
+    pub start: u64,
+    /// The number of the element behind the one that was begun last.
+    pub next: u64,
+}
+
 /// What a step through the rows of an array came to.
 #[derive(Clone, Copy, Debug, Drop)]
 pub enum Step {
@@ -37,10 +48,11 @@ pub enum Step {
 pub struct Rows {
     /// The offset of what is to be written next. None behind an element.
     pub pending: Option<u64>,
-    /// Rows of which some elements are written, the innermost last.
-    pub begun: Items<OpenRow>,
-    /// How many subranges, the outermost first, are passed over or were begun.
+    /// The rows of which more elements are to be begun, the innermost last. Of the others that are
+    /// open nothing is kept: they end next.
+    pub begun: Items<BegunRow>,
+    /// How many subranges, the outermost first, are passed over.
+    pub passed: usize,
+    /// How many are passed over or have a row that is open.
     pub opened: usize,
-    /// Those of them that are closed again, the outermost last.
-    pub closed: Items<Level>,
 }

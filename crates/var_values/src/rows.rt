@@ -1,13 +1,12 @@
 //! The rows of an array, written without recursion: an array may have very many subranges.
 
-ghost use Rattle.std.specs.Prelude.{ℕ, ◌≡◌, ◌<◌, ◌+◌, ◌*◌, ◌^◌, ◌↔◌, ◌++◌, ◌∷◌, [], Some, None, List, length, unwrap_or, OnOk};
-ghost use Rattle.std.specs.Prelude.{IfOk, IsSome, option_and_then};
-ghost use Rattle.std.specs.Option.{option_to_list};
+ghost use Rattle.std.specs.Prelude.{ℕ, ◌≡◌, ◌<◌, ◌+◌, ◌*◌, ◌^◌, ◌++◌, ◌∷◌, [], Some, None, List, length, unwrap_or, OnOk};
+ghost use Rattle.std.specs.Prelude.{IfOk, IfSome, IfNone, option_and_then, codes};
 ghost use Rattle.dwarf_types.specs.calls.Subranges.{Subranges};
 ghost use Rattle.var_values.specs.inner.Odometer as odometer;
-ghost use Rattle.var_values.specs.inner.Odometer.{IsSound, AreSound, left, rows_left, levels_behind, all_closed};
+ghost use Rattle.var_values.specs.inner.Odometer.{AreSound, IsOther, rows_left, levels_behind};
 
-use crate::levels::{Level, OpenRow, Rows, Step};
+use crate::levels::{BegunRow, Level, OpenRow, Rows, Step};
 use causes::NoMemory;
 use dwarf_types::ArrayRows;
 use pm_text::{Items, Text};
@@ -56,15 +55,65 @@ fn known_count(count: Option<Option<u128>>) -> u128
 }
 
 /// The level of a subrange of an array.
-#[tactic(auto, using(crate::proofs::BehindLaws::level_there))]
 fn level_at(array: &ArrayRows, number: usize) -> Level
-    requires within { number < length array.now.counts }
     requires room { number + 1 < 2 ^ 64 }
-    ensures { levels_behind array.now number ≡ result ∷ levels_behind array.now (number + 1) }
+    ensures { result ≡ odometer.level_at array.now number }
 {
     let count = known_count(array.count(number));
     let step = array.size(number + 1).unwrap_or(0);
     Level { count, step }
+}
+
+/// Keeps the row of a subrange, if it has more elements.
+fn keep(begun: &mut Items<BegunRow>, number: usize, row: OpenRow) -> Result<(), NoMemory>
+    ensures { OnOk result (begun.new ≡ odometer.kept number row begun.old) }
+{
+    if row.next < shown(row.level) {
+        begun.push(BegunRow {
+            number,
+            start: row.start,
+            next: row.next,
+        })?;
+    }
+    Ok(())
+}
+
+/// Takes the row of a subrange, if it is kept: then it is the innermost one.
+fn take_row(begun: &mut Items<BegunRow>, number: usize) -> Option<BegunRow>
+    ensures some { IfSome result (λ b. (begun.old ≡ begun.new ++ b ∷ []) × (b.number ≡ number)) }
+    ensures none { IfNone result ((begun.new ≡ begun.old) × IsOther number begun.old) }
+{
+    let last = begun.last()?.number;
+    if last != number {
+        return None;
+    }
+    begun.pop()
+}
+
+/// Writes what stands in front of the next element of the row of a subrange. The offset of that
+/// element.
+fn begin_next(
+    begun: &mut Items<BegunRow>,
+    text: &mut Text,
+    number: usize,
+    row: OpenRow,
+) -> Result<u64, NoMemory>
+    requires fits { row.start + row.next * row.level.step < 2 ^ 64 }
+    requires room { row.next + 1 < 2 ^ 64 }
+    ensures at { IfOk result (λ at. at ≡ row.start + row.next * row.level.step) }
+    ensures begun { OnOk result (begun.new ≡ odometer.kept number
+        (odometer.row row.level row.start (row.next + 1)) begun.old) }
+    ensures text { OnOk result (text.new ≡ text.old ++ codes ", ") }
+{
+    text.push_str(", ")?;
+    let at = offset_of(row);
+    let next = OpenRow {
+        level: row.level,
+        start: row.start,
+        next: row.next + 1,
+    };
+    keep(begun, number, next)?;
+    Ok(at)
 }
 
 impl Rows {
@@ -78,84 +127,70 @@ impl Rows {
         Rows {
             pending: Some(0),
             begun: Items::new(alloc),
+            passed: skipped,
             opened: skipped,
-            closed: Items::new(alloc),
         }
     }
 
-    /// Begins a row of a level at an offset.
-    fn begin(&mut self, text: &mut Text, level: Level, start: u64) -> Result<(), NoMemory>
-        ensures sound { OnOk result ((a : Subranges)
-            → IsSound (Some start) self.old.begun (all_closed a self.old ++ level ∷ [])
-            → AreSound a self.new) }
+    /// Begins a row of the next subrange at an offset.
+    fn begin(&mut self, text: &mut Text, array: &ArrayRows, start: u64) -> Result<(), NoMemory>
+        requires pending { self.old.pending ≡ Some start }
+        requires within { self.old.opened < length array.now.counts }
+        requires room { self.old.opened + 1 < 2 ^ 64 }
+        requires sound { AreSound array.now self.old }
+        ensures sound { OnOk result (AreSound array.now self.new) }
         ensures grows { OnOk result (length text.old < length text.new) }
-        ensures keeps { OnOk result ((a : Subranges) (item : ℕ → List ℕ)
-            → text.old ++ left item (Some start) self.old.begun (all_closed a self.old ++ level ∷ [])
-            ≡ text.new ++ rows_left item a self.new) }
+        ensures keeps { OnOk result ((item : ℕ → List ℕ)
+            → text.old ++ rows_left item array.now self.old
+            ≡ text.new ++ rows_left item array.now self.new) }
     {
+        let level = level_at(array, self.opened);
         if level.count == 0 {
             text.push_str("{}")?;
-            self.closed.push(level)?;
             self.pending = None;
             return Ok(());
         }
         text.push_str("{")?;
-        self.begun.push(OpenRow {
+        let row = OpenRow {
             level,
             start,
             next: 1,
-        })?;
-        self.pending = Some(start);
-        Ok(())
-    }
-
-    /// Goes on behind an element of a row.
-    fn go_on(&mut self, text: &mut Text, row: OpenRow) -> Result<(), NoMemory>
-        requires fits { row.next < odometer.shown row.level.count
-            → row.start + row.next * row.level.step < 2 ^ 64 }
-        ensures sound { OnOk result ((a : Subranges)
-            → IsSound None (self.old.begun ++ row ∷ []) (all_closed a self.old)
-            → AreSound a self.new) }
-        ensures grows { OnOk result (length text.old < length text.new) }
-        ensures keeps { OnOk result ((a : Subranges) (item : ℕ → List ℕ)
-            → text.old ++ left item None (self.old.begun ++ row ∷ []) (all_closed a self.old)
-            ≡ text.new ++ rows_left item a self.new) }
-    {
-        if row.next < shown(row.level) {
-            text.push_str(", ")?;
-            self.begun.push(OpenRow {
-                level: row.level,
-                start: row.start,
-                next: row.next + 1,
-            })?;
-            self.pending = Some(offset_of(row));
-            return Ok(());
-        }
-        push_end(text, row.level)?;
-        self.closed.push(row.level)?;
-        self.pending = None;
-        Ok(())
-    }
-
-    /// Takes the outermost of the levels that are not open.
-    #[tactic(auto, using(crate::proofs::BehindLaws::closed_taken, crate::proofs::BehindLaws::closed_some, crate::proofs::BehindLaws::none_taken, crate::proofs::BehindLaws::first_taken, crate::proofs::BehindLaws::first_some))]
-    fn take_level(&mut self, array: &ArrayRows) -> Option<Level>
-        ensures level { all_closed array.now self.old
-            ≡ all_closed array.now self.new ++ option_to_list result }
-        ensures variant { IsSome result ↔ (0 < length (all_closed array.now self.old)) }
-        ensures pending { self.new.pending ≡ self.old.pending }
-        ensures begun { self.new.begun ≡ self.old.begun }
-    {
-        let closed = self.closed.pop();
-        if let Some(level) = closed {
-            return Some(level);
-        }
-        if self.opened >= array.len() {
-            return None;
-        }
-        let level = level_at(array, self.opened);
+        };
+        keep(&mut self.begun, self.opened, row)?;
         self.opened += 1;
-        Some(level)
+        Ok(())
+    }
+
+    /// Goes on behind an element of the innermost row.
+    fn go_on(&mut self, text: &mut Text, array: &ArrayRows) -> Result<(), NoMemory>
+        requires pending { self.old.pending ≡ None }
+        requires open { self.old.passed < self.old.opened }
+        requires sound { AreSound array.now self.old }
+        ensures sound { OnOk result (AreSound array.now self.new) }
+        ensures grows { OnOk result (length text.old < length text.new) }
+        ensures keeps { OnOk result ((item : ℕ → List ℕ)
+            → text.old ++ rows_left item array.now self.old
+            ≡ text.new ++ rows_left item array.now self.new) }
+    {
+        let number = self.opened - 1;
+        let level = level_at(array, number);
+        match take_row(&mut self.begun, number) {
+            Some(begun) => {
+                let row = OpenRow {
+                    level,
+                    start: begun.start,
+                    next: begun.next,
+                };
+                let at = begin_next(&mut self.begun, text, number, row)?;
+                self.pending = Some(at);
+                Ok(())
+            }
+            None => {
+                push_end(text, level)?;
+                self.opened = number;
+                Ok(())
+            }
+        }
     }
 
     /// Writes what stands in front of the next decision.
@@ -168,23 +203,21 @@ impl Rows {
             ≡ text.new ++ odometer.step_left item array.now step self.new) }
     {
         match self.pending {
-            Some(at) => match self.take_level(array) {
-                Some(level) => {
-                    self.begin(text, level, at)?;
-                    Ok(Step::On)
+            Some(at) => {
+                if self.opened < array.len() {
+                    self.begin(text, array, at)?;
+                    return Ok(Step::On);
                 }
-                None => {
-                    self.pending = None;
-                    Ok(Step::Element(at))
+                self.pending = None;
+                Ok(Step::Element(at))
+            }
+            None => {
+                if self.passed < self.opened {
+                    self.go_on(text, array)?;
+                    return Ok(Step::On);
                 }
-            },
-            None => match self.begun.pop() {
-                Some(row) => {
-                    self.go_on(text, row)?;
-                    Ok(Step::On)
-                }
-                None => Ok(Step::End),
-            },
+                Ok(Step::End)
+            }
         }
     }
 

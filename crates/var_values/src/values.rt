@@ -1,13 +1,14 @@
 //! Texts of values, by recursion on their types (DWARF 4 sections 5.4, 5.5 and 5.7).
 
 ghost use Rattle.std.specs.Prelude.{◌≡◌, ◌≢◌, ◌<◌, ◌^◌, ◌++◌, suc, true, drop, map, unwrap_or, IsSome};
-ghost use Rattle.std.specs.Prelude.{OnOk, IfOk};
+ghost use Rattle.std.specs.Prelude.{OnOk, IfOk, ℕ, pos};
 ghost use Rattle.dwarf_entries.specs.Origins.{longest_chain};
 ghost use Rattle.dwarf_types.specs.Types.{class_at, type_of as type_at};
 ghost use Rattle.dwarf_types.specs.Sizes as sizes;
 ghost use Rattle.dwarf_types.specs.calls.Subranges.{size_behind};
 ghost use Rattle.dwarf_types.specs.declared.behind.Typed.TheVariants as typeds;
 ghost use Rattle.dwarf_types.specs.declared.class.Class.TheVariants as classes;
+ghost use Rattle.var_values.specs.Places.{further as further_on};
 ghost use Rattle.var_values.specs.calls.Near.{IsNear};
 ghost use Rattle.var_values.specs.Members.{member_place, part_at, unplaced};
 ghost use Rattle.var_values.specs.Suits as suiting;
@@ -339,6 +340,19 @@ fn push_members<'t, 'r, 'k, 'w, 'v, 'a>(
     text.push_str("}")
 }
 
+/// The place so many bytes on.
+fn place_on<'s>(place: &Place<'s>, at: u64) -> Place<'s>
+    requires near { IsNear 1 place.now.offset }
+    ensures is { result ≡ further_on place.now (pos at) }
+    ensures near { (n : ℕ) → IsNear (suc n) place.now.offset → IsNear n result.offset }
+{
+    Place {
+        source: place.source,
+        offset: place.offset + i128::from(at),
+        bits: None,
+    }
+}
+
 /// Appends the rows of an array without its first so many subranges.
 #[cycle(values)]
 fn push_rows<'t, 'r, 'k, 'w, 'v, 'a>(
@@ -363,11 +377,7 @@ fn push_rows<'t, 'r, 'k, 'w, 'v, 'a>(
         let Some(at) = rows.next(text, array)? else {
             return Ok(());
         };
-        let there = Place {
-            source: place.source,
-            offset: place.offset + i128::from(at),
-            bits: None,
-        };
+        let there = place_on(place, at);
         push_in_place(text, context, further, element, &there)?;
     }
 }

@@ -1,11 +1,12 @@
 -- What is left to write of the rows of an array, some of which are open. Offsets count from the start of the array.
-use Rattle.std.specs.Prelude.{ℕ, ◌+◌, ◌-◌, ◌*◌, ◌^◌, ◌<◌, ◌≤◌, nat_lt, if◌then◌else◌, min, List, [], ◌∷◌, ◌++◌, length, map, drop, reverse, Option, Some, None, unwrap_or, codes}
+use Rattle.std.specs.Prelude.{ℕ, zero, suc, ◌+◌, ◌-◌, ◌*◌, ◌^◌, ◌<◌, ◌≤◌, ◌==◌, ◌≢◌, nat_lt, if◌then◌else◌, min, List, [], ◌∷◌, ◌++◌, length, map, drop, reverse, slice_get, IfSome, Option, Some, None, unwrap_or, option_and_then, codes}
 use Rattle.std.specs.List.{flat_map, range_with_len}
 use Rattle.dwarf_types.specs.Products.{array_size}
-use Rattle.dwarf_types.specs.calls.Subranges.{Subranges}
+use Rattle.dwarf_types.specs.calls.Subranges.{Subranges, size_behind}
 use Rattle.var_values.specs.Values.{braced, dots, shown_elements, row_size}
 use Rattle.var_values.specs.declared.levels.Level.{Level}
 use Rattle.var_values.specs.declared.levels.OpenRow.{OpenRow}
+use Rattle.var_values.specs.declared.levels.BegunRow.{BegunRow}
 use Rattle.var_values.specs.declared.levels.Step.{Step}
 use Rattle.var_values.specs.declared.levels.Step.TheVariants.{On, Element, End}
 use Rattle.var_values.specs.declared.levels.Rows.{Rows}
@@ -56,10 +57,6 @@ pending_text item (Some z) ls = rows_text item ls z
 abbrev pub left_at : (ℕ → List ℕ) → Option ℕ → List OpenRow → List Level → List ℕ
 left_at item pending rs ls = pending_text item pending ls ++ behind item rs ls
 
--- all that is left; the stacks have their top at the end
-unfoldable pub left : (ℕ → List ℕ) → Option ℕ → List OpenRow → List Level → List ℕ
-left item pending rows closed = left_at item pending (reverse rows) (reverse closed)
-
 abbrev pub row : Level → ℕ → ℕ → OpenRow
 row l start next = record { level = l; start = start; next = next }
 
@@ -85,20 +82,52 @@ pub record IsSoundAt (pending : Option ℕ) (rs : List OpenRow) (ls : List Level
   pub rows : AreOpen rs ls
   pub next : IsPending pending ls
 
-unfoldable pub IsSound : Option ℕ → List OpenRow → List Level → Type 0
-IsSound pending rows closed = IsSoundAt pending (reverse rows) (reverse closed)
+-- ---- open rows
+
+-- the level of the subrange of a number
+abbrev pub level_at : Subranges → ℕ → Level
+level_at a k = level_of (option_and_then (λ c. c) (slice_get a.counts k)) (unwrap_or (size_behind a (k + 1)) 0)
+
+-- a row whose last element was begun: where it starts is told no more
+abbrev pub finished : Level → OpenRow
+finished l = row l 0 l.count
+
+abbrev pub begun_row : ℕ → OpenRow → BegunRow
+begun_row number r = record { number = number; start = r.start; next = r.next }
+
+-- a row is kept if it has more elements
+abbrev pub kept : ℕ → OpenRow → List BegunRow → List BegunRow
+kept number r rows = if nat_lt r.next (shown r.level.count) then rows ++ begun_row number r ∷ [] else rows
+
+-- the rows of d subranges behind the first p, the innermost first, of which these are kept, the innermost first
+unfoldable pub open_rows : Subranges → ℕ → ℕ → List BegunRow → List OpenRow
+open_rows a p zero rows = []
+open_rows a p (suc d) [] = finished (level_at a (p + d)) ∷ open_rows a p d []
+open_rows a p (suc d) (b ∷ rows) = if b.number == p + d then row (level_at a (p + d)) b.start b.next ∷ open_rows a p d rows else finished (level_at a (p + d)) ∷ open_rows a p d (b ∷ rows)
+
+abbrev pub rows_of : Subranges → Rows → List OpenRow
+rows_of a r = open_rows a r.passed (r.opened - r.passed) (reverse r.begun)
+
+-- kept rows are of subranges before a number, each before the one in front, and have more elements
+abbrev pub AreBelow : Subranges → ℕ → List BegunRow → Type 0
+AreBelow a n [] = Unit {0}
+AreBelow a n (b ∷ rows) = (b.number < n) × (b.next < shown (level_at a b.number).count) × AreBelow a b.number rows
+
+-- the innermost of kept rows, the last one, is of another subrange
+abbrev pub IsOther : ℕ → List BegunRow → Type 0
+IsOther n rows = IfSome (slice_get rows (length rows - 1)) (λ (b : BegunRow). b.number ≢ n)
+
+pub record AreSound (a : Subranges) (r : Rows) : Type 0 where
+  pub fits : IsSoundAt r.pending (rows_of a r) (levels_behind a r.opened)
+  pub order : r.passed ≤ r.opened
+  pub within : r.passed < r.opened → r.opened ≤ length a.counts
+  pub below : AreBelow a r.opened (reverse r.begun)
 
 -- ---- steps
 
--- all that are not open: those that were not begun yet, and behind them those that are closed again, the outermost last
-abbrev pub all_closed : Subranges → Rows → List Level
-all_closed a r = reverse (levels_behind a r.opened) ++ r.closed
-
-abbrev pub AreSound : Subranges → Rows → Type 0
-AreSound a r = IsSound r.pending r.begun (all_closed a r)
-
+-- all that is left
 abbrev pub rows_left : (ℕ → List ℕ) → Subranges → Rows → List ℕ
-rows_left item a r = left item r.pending r.begun (all_closed a r)
+rows_left item a r = left_at item r.pending (rows_of a r) (levels_behind a r.opened)
 
 -- what is left behind a step: where an element is to be written, it is left too
 abbrev pub step_left : (ℕ → List ℕ) → Subranges → Step → Rows → List ℕ

@@ -1,9 +1,9 @@
-use Rattle.std.proofs.Common.{◌≡◌, ◌+◌, ◌-◌, length, refl, arith}
+use Rattle.std.proofs.Common.{◌≡◌, ◌+◌, ◌-◌, arith}
 use Rattle.dwarf_types.proofs.SizeLaws.{begun, further, ended, all_sized}
 use Rattle.dwarf_types.proofs.array_rows.sizes_of.Goals as goal
 
 pub subranges-init : goal.subranges-init
-subranges-init c = begun c.args.counts.now c.args.element (length c.args.counts.now) c.new-sizes.result c.push.new.self c.new-sizes.ensures c.in_ok-push.ensures.ok refl
+subranges-init c = begun c.args.counts.now c.args.element c.len-left.result c.new-sizes.result c.push.new.self c.new-sizes.ensures c.in_ok-push.ensures.ok c.len-left.ensures
 
 pub returns-in_default : goal.returns-in_default
 returns-in_default c =

@@ -1,13 +1,15 @@
-use Rattle.std.proofs.Common.{◌≡◌, ◌<◌, ◌≤◌, ◌-◌, None, Some, length, subst, sym, ap, ◌∙◌, arith}
+use Rattle.std.proofs.Common.{◌≡◌, ℕ, ◌<◌, ◌≤◌, ◌-◌, ◌++◌, List, Option, None, Some, append_assoc, length, subst, sym, ap, ◌∙◌, arith}
 use Rattle.std.specs.Prelude.{IfOk}
 use Rattle.dwarf_types.specs.Counts.{counts}
 use Rattle.dwarf_types.specs.Types.{class_at, type_of}
 use Rattle.dwarf_types.specs.declared.behind.Typed.{Typed}
 use Rattle.dwarf_types.specs.declared.class.Class.TheVariants as classes
 use Rattle.var_values.specs.declared.mark.Mark.TheVariants.{TypeTooDeep, UnsupportedType}
-use Rattle.var_values.specs.Values.{Text, item_text, value_text}
+use Rattle.var_values.specs.Values.{Text, in_place, item_text, value_text}
 use Rattle.var_values.specs.calls.Told.{Tells}
-use Rattle.var_values.specs.inner.Parts.{inner_size}
+use Rattle.var_values.specs.inner.Parts.{inner_size, element_text}
+use Rattle.var_values.specs.inner.Odometer.{rows_left, step_left, step_of}
+use Rattle.var_values.specs.Places.{Place}
 use Rattle.var_values.proofs.ValueLaws.{nothing_tells, deep_tells, passed_is, sized_is, mark_tells, item_joined}
 use Rattle.var_values.proofs.ArrayLaws.{rows_none, rows_tell, array_known, size_known}
 use Rattle.var_values.proofs.BehindLaws.{behind_nested, behind_fits}
@@ -42,6 +44,24 @@ push_known-returns-then-count-skipped t c =
     let value = value_text c.args.context.now.units.now c.args.context.now.view.now.memory c.args.further c.args.element.now in
     let past : length c.args.array.now.counts ≤ c.args.skipped = omega (arith, c.len-count.ensures, c.if-count-skipped.true) in
     subst (λ (v : Text). IfOk c.push_within.result (λ mark. Tells v mark c.args.text.now c.push_within.new.text)) (sym (rows_none value c.args.array.now c.args.skipped c.args.place.now past)) c.push_within.ensures
+
+pub push_rows-push_in_place-requires : goal.push_rows-push_in_place-requires
+push_rows-push_in_place-requires t c = (omega arith, c.place_on-there.ensures.near c.args.further c.requires.near)
+
+pub push_rows-elements-preserved : goal.push_rows-elements-preserved
+push_rows-elements-preserved t c =
+    let item = element_text c.args.context.now.units.now c.args.context.now.view.now.memory c.args.further c.args.element.now c.args.place.now in
+    let a = c.args.array.now in
+    let keeps = subst (λ (o : Option ℕ). c.elements.text ++ rows_left item a c.elements.rows ≡ c.next.new.text ++ step_left item a (step_of o) c.next.new.self) c.in-Some.is (c.in_ok-at.ensures.keeps item) in
+    let written : c.push_in_place.new.text ≡ c.next.new.text ++ item c.in-Some.at =
+    c.in_ok-push_in_place.ensures
+    ∙ ap (λ (q : Place). c.next.new.text ++ in_place (value_text c.args.context.now.units.now c.args.context.now.view.now.memory c.args.further c.args.element.now q)) c.place_on-there.ensures.is in
+    record {
+      sound = c.in_ok-at.ensures.sound;
+      rest =
+          ap (λ (s : List ℕ). s ++ rows_left item a c.next.new.self) written ∙ append_assoc c.next.new.text (item c.in-Some.at) (rows_left item a c.next.new.self)
+          ∙ sym keeps ∙ c.elements.invariant.rest;
+    }
 
 pub push_known-push_rows-requires : goal.push_known-push_rows-requires
 push_known-push_rows-requires t c =

@@ -1,27 +1,19 @@
-use Rattle.std.proofs.Common.{◌<◌, ◌++◌, arith}
-use Rattle.std.specs.Prelude.{reverse}
-use Rattle.var_values.specs.inner.Odometer.{levels_behind, all_closed}
-use Rattle.var_values.proofs.RowLaws.{begun_sound, empty_sound, begun_keeps, empty_keeps, closed_more}
+use Rattle.std.proofs.Common.{◌<◌, arith}
+use Rattle.var_values.proofs.RowLaws.{empty_keeps, begun_sound, begun_keeps}
 use Rattle.var_values.proofs.levels.Rows.begin.Goals as goal
 
-pub returns-then-level-eq0-clause-sound : goal.returns-then-level-eq0-clause-sound
-returns-then-level-eq0-clause-sound c = λ a sound.
-    let front = reverse (levels_behind a c.args.self.now.opened) in
-    let more = closed_more front c.args.self.now.closed c.push.new.self c.args.level c.in_ok-push.ensures.ok in
-    empty_sound c.args.self.now.begun (all_closed a c.args.self.now) (front ++ c.push.new.self) c.args.level c.args.start more sound
-
 pub returns-then-level-eq0-clause-keeps : goal.returns-then-level-eq0-clause-keeps
-returns-then-level-eq0-clause-keeps c = λ a item.
-    let front = reverse (levels_behind a c.args.self.now.opened) in
-    let more = closed_more front c.args.self.now.closed c.push.new.self c.args.level c.in_ok-push.ensures.ok in
-    empty_keeps c.args.text.now c.push_str.new.self item c.args.self.now.begun (all_closed a c.args.self.now) (front ++ c.push.new.self) c.args.level c.args.start c.in_ok-push_str.ensures.ok more c.if-level-eq0.true
+returns-then-level-eq0-clause-keeps c = λ item.
+    empty_keeps c.args.text.now c.push_str.new.self item c.args.array.now c.args.self.now c.level_at-level.result c.args.start c.in_ok-push_str.ensures.ok c.requires.pending c.level_at-level.ensures
+    c.if-level-eq0.true c.requires.within
 
 pub returns-clause-sound : goal.returns-clause-sound
-returns-clause-sound c = λ a sound.
-    let some : 0 < c.args.level.count = omega arith in
-    begun_sound c.args.self.now.begun c.push-2.new.self (all_closed a c.args.self.now) c.args.level c.args.start c.in_ok-push-2.ensures.ok some sound
+returns-clause-sound c =
+    let some : 0 < c.level_at-level.result.count = omega (arith, c.if-level-eq0.false) in
+    begun_sound c.args.array.now c.args.self.now c.level_at-level.result c.args.start c.keep.new.begun c.requires.pending c.level_at-level.ensures some c.requires.within c.in_ok-keep.ensures c.requires.sound
 
 pub returns-clause-keeps : goal.returns-clause-keeps
-returns-clause-keeps c = λ a item.
-    let some : 0 < c.args.level.count = omega arith in
-    begun_keeps c.args.text.now c.push_str-2.new.self item c.args.self.now.begun c.push-2.new.self (all_closed a c.args.self.now) c.args.level c.args.start c.in_ok-push_str-2.ensures.ok c.in_ok-push-2.ensures.ok some
+returns-clause-keeps c = λ item.
+    let some : 0 < c.level_at-level.result.count = omega (arith, c.if-level-eq0.false) in
+    begun_keeps c.args.text.now c.push_str-2.new.self item c.args.array.now c.args.self.now c.level_at-level.result c.args.start c.keep.new.begun c.in_ok-push_str-2.ensures.ok c.requires.pending
+    c.level_at-level.ensures some c.requires.within c.in_ok-keep.ensures c.requires.sound

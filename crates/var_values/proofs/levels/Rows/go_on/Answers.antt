@@ -1,33 +1,37 @@
-use Rattle.std.proofs.Common.{◌<◌, ◌≤◌, ◌++◌, arith}
-use Rattle.std.specs.Prelude.{reverse}
-use Rattle.var_values.specs.inner.Odometer.{shown, levels_behind, all_closed}
-use Rattle.var_values.proofs.RowLaws.{goes_on_sound, goes_on_keeps, ends_sound, ends_keeps, closed_more}
+use Rattle.std.proofs.Common.{◌≡◌, ◌+◌, ◌-◌, Some, ap, arith}
+use Rattle.var_values.proofs.RowLaws.{IsTaken, next_fits, next_sound, next_keeps, ended_sound, ended_keeps}
 use Rattle.var_values.proofs.levels.Rows.go_on.Goals as goal
 
-pub offset_of-requires : goal.offset_of-requires
-offset_of-requires c =
-    let lt : c.args.row.next < shown c.args.row.level.count = omega (arith, c.if-row-shown.true, c.shown.ensures) in
-    c.requires.fits lt
+pub begin_next-requires-clause-fits : goal.begin_next-requires-clause-fits
+begin_next-requires-clause-fits c =
+    let number : c.args.self.now.opened ≡ c.args.self.now.opened - 1 + 1 = omega (arith, c.requires.open) in
+    let taken : IsTaken c.args.array.now c.args.self.now (c.args.self.now.opened - 1) c.level_at-level.result c.in-Some.begun c.take_row.new.begun =
+    record { none = c.requires.pending; number = number; «open» = c.requires.open; level = c.level_at-level.ensures; was = c.in-Some.ensures.some.0; same = c.in-Some.ensures.some.1 } in
+    next_fits c.args.array.now c.args.self.now (c.args.self.now.opened - 1) c.level_at-level.result c.in-Some.begun c.take_row.new.begun taken c.requires.sound
 
-pub returns-then-row-shown-clause-sound : goal.returns-then-row-shown-clause-sound
-returns-then-row-shown-clause-sound c = λ a sound.
-    let lt : c.args.row.next < shown c.args.row.level.count = omega (arith, c.if-row-shown.true, c.shown.ensures) in
-    goes_on_sound c.args.self.now.begun c.push.new.self (all_closed a c.args.self.now) c.args.row c.offset_of.result c.in_ok-push.ensures.ok c.offset_of.ensures lt sound
+pub returns-in_ok-at-in-Some-clause-sound : goal.returns-in_ok-at-in-Some-clause-sound
+returns-in_ok-at-in-Some-clause-sound c =
+    let number : c.args.self.now.opened ≡ c.args.self.now.opened - 1 + 1 = omega (arith, c.requires.open) in
+    let taken : IsTaken c.args.array.now c.args.self.now (c.args.self.now.opened - 1) c.level_at-level.result c.in-Some.begun c.take_row.new.begun =
+    record { none = c.requires.pending; number = number; «open» = c.requires.open; level = c.level_at-level.ensures; was = c.in-Some.ensures.some.0; same = c.in-Some.ensures.some.1 } in
+    next_sound c.args.array.now c.args.self.now (c.args.self.now.opened - 1) c.level_at-level.result c.in-Some.begun c.take_row.new.begun c.begin_next.new.begun (Some c.in_ok-at-in-Some.at) taken
+    (ap Some c.in_ok-at-in-Some.ensures.at) c.in_ok-at-in-Some.ensures.begun c.requires.sound
 
-pub returns-then-row-shown-clause-keeps : goal.returns-then-row-shown-clause-keeps
-returns-then-row-shown-clause-keeps c = λ a item.
-    let lt : c.args.row.next < shown c.args.row.level.count = omega (arith, c.if-row-shown.true, c.shown.ensures) in
-    goes_on_keeps c.args.text.now c.push_str.new.self item c.args.self.now.begun c.push.new.self (all_closed a c.args.self.now) c.args.row c.offset_of.result c.in_ok-push_str.ensures.ok c.in_ok-push.ensures.ok c.offset_of.ensures lt
+pub returns-in_ok-at-in-Some-clause-keeps : goal.returns-in_ok-at-in-Some-clause-keeps
+returns-in_ok-at-in-Some-clause-keeps c = λ item.
+    let number : c.args.self.now.opened ≡ c.args.self.now.opened - 1 + 1 = omega (arith, c.requires.open) in
+    let taken : IsTaken c.args.array.now c.args.self.now (c.args.self.now.opened - 1) c.level_at-level.result c.in-Some.begun c.take_row.new.begun =
+    record { none = c.requires.pending; number = number; «open» = c.requires.open; level = c.level_at-level.ensures; was = c.in-Some.ensures.some.0; same = c.in-Some.ensures.some.1 } in
+    next_keeps c.args.text.now c.begin_next.new.text item c.args.array.now c.args.self.now (c.args.self.now.opened - 1) c.level_at-level.result c.in-Some.begun c.take_row.new.begun c.begin_next.new.begun
+    (Some c.in_ok-at-in-Some.at) c.in_ok-at-in-Some.ensures.text taken (ap Some c.in_ok-at-in-Some.ensures.at) c.in_ok-at-in-Some.ensures.begun c.requires.sound
 
-pub returns-clause-sound : goal.returns-clause-sound
-returns-clause-sound c = λ a sound.
-    let front = reverse (levels_behind a c.args.self.now.opened) in
-    let more = closed_more front c.args.self.now.closed c.push-2.new.self c.args.row.level c.in_ok-push-2.ensures.ok in
-    ends_sound c.args.self.now.begun (all_closed a c.args.self.now) (front ++ c.push-2.new.self) c.args.row more sound
+pub returns-in_ok-push_end-in-None-clause-sound : goal.returns-in_ok-push_end-in-None-clause-sound
+returns-in_ok-push_end-in-None-clause-sound c =
+    let number : c.args.self.now.opened ≡ c.args.self.now.opened - 1 + 1 = omega (arith, c.requires.open) in
+    ended_sound c.args.array.now c.args.self.now (c.args.self.now.opened - 1) c.take_row.new.begun c.requires.pending number c.requires.open c.in-None.ensures.none.0 c.in-None.ensures.none.1 c.requires.sound
 
-pub returns-clause-keeps : goal.returns-clause-keeps
-returns-clause-keeps c = λ a item.
-    let le : shown c.args.row.level.count ≤ c.args.row.next = omega (arith, c.if-row-shown.false, c.shown.ensures) in
-    let front = reverse (levels_behind a c.args.self.now.opened) in
-    let more = closed_more front c.args.self.now.closed c.push-2.new.self c.args.row.level c.in_ok-push-2.ensures.ok in
-    ends_keeps c.args.text.now c.push_end.new.text item c.args.self.now.begun (all_closed a c.args.self.now) (front ++ c.push-2.new.self) c.args.row c.in_ok-push_end.ensures more le
+pub returns-in_ok-push_end-in-None-clause-keeps : goal.returns-in_ok-push_end-in-None-clause-keeps
+returns-in_ok-push_end-in-None-clause-keeps c = λ item.
+    let number : c.args.self.now.opened ≡ c.args.self.now.opened - 1 + 1 = omega (arith, c.requires.open) in
+    ended_keeps c.args.text.now c.push_end.new.text item c.args.array.now c.args.self.now c.level_at-level.result (c.args.self.now.opened - 1) c.take_row.new.begun c.in_ok-push_end-in-None.ensures
+    c.level_at-level.ensures c.requires.pending number c.requires.open c.in-None.ensures.none.0 c.in-None.ensures.none.1 c.requires.sound
