@@ -2,6 +2,7 @@
 
 ghost use Rattle.std.specs.Prelude.{◌≡◌, ◌++◌, Some, IfOk, OnOk, option_copied, slice_get};
 ghost use Rattle.dwarf_types.specs.calls.Known.{AreKnown};
+ghost use Rattle.var_eval.specs.calls.Names.{AreNames};
 ghost use Rattle.debugger.specs.Texts as texts;
 ghost use Rattle.debugger.specs.Variables as variables;
 ghost use Rattle.debugger.specs.Session as definitions;
@@ -16,6 +17,7 @@ use causes::NoMemory;
 use dump_format::Frame;
 use pm_text::Text;
 use std::alloc::Global;
+use var_eval::KnownNames;
 use var_path::{Path, parse_path};
 
 /// The frame of an index.
@@ -101,10 +103,11 @@ fn push_chosen_variables(
 
 /// The line of what stands at a path in a frame, which is the chosen one.
 #[tactic(auto, unfolding(crate::specs::Variables::path_text))]
-fn path_line(
+fn path_line<'a>(
     alloc: Global,
-    information: &Information<'_>,
+    information: &Information<'a>,
     types: &KnownTypes,
+    names: &mut KnownNames<'a>,
     subject: &Subject<'_, '_, '_, '_>,
     chosen: Chosen,
     frame: &Frame,
@@ -113,15 +116,19 @@ fn path_line(
 ) -> Answer
     requires information { information.now ≡ subject.now.information }
     requires types { AreKnown subject.now.information.units types.now.arrays }
-    ensures { IfOk result (λ text. text ≡ variables.path_text subject.now
+    requires names { AreNames subject.now.information.sections subject.now.information.units
+        names.old }
+    ensures text { IfOk result (λ text. text ≡ variables.path_text subject.now
         (variables.left_in chosen.index chosen.operands) word.now path.now frame.now) }
+    ensures known { AreNames subject.now.information.sections subject.now.information.units
+        names.new }
 {
     let view = view_of(subject, frame);
     let structures = types.structures(alloc, information.units())?;
     let typed = types.typed(information.units(), &structures);
     let looks = looks_of(alloc, information, subject, frame, chosen, &view, typed)?;
     let mut out = Text::new(alloc);
-    push_path(&mut out, alloc, &looks, word, path)?;
+    push_path(&mut out, alloc, &looks, names, word, path)?;
     Ok(out)
 }
 
@@ -264,10 +271,11 @@ fn variables(alloc: Global, subject: &mut Subject<'_, '_, '_, '_>, chosen: Chose
     answer
 }
 
-fn at_path_by(
+fn at_path_by<'a>(
     alloc: Global,
-    information: &Information<'_>,
+    information: &Information<'a>,
     types: &KnownTypes,
+    names: &mut KnownNames<'a>,
     subject: &Subject<'_, '_, '_, '_>,
     chosen: Chosen,
     word: &str,
@@ -275,14 +283,19 @@ fn at_path_by(
 ) -> Answer
     requires information { information.now ≡ subject.now.information }
     requires types { AreKnown subject.now.information.units types.now.arrays }
-    ensures { IfOk result (λ text. text ≡ definitions.chosen_path subject.now chosen.index
+    requires names { AreNames subject.now.information.sections subject.now.information.units
+        names.old }
+    ensures text { IfOk result (λ text. text ≡ definitions.chosen_path subject.now chosen.index
         chosen.operands word.now (Some path.now)) }
+    ensures known { AreNames subject.now.information.sections subject.now.information.units
+        names.new }
 {
     match frame_at(subject, chosen.index) {
         Some(frame) => path_line(
             alloc,
             information,
             types,
+            names,
             subject,
             chosen,
             frame,
@@ -307,7 +320,18 @@ fn at_path(
     let mut information = subject.take_information(alloc)?;
     information.gather(alloc)?;
     let types = subject.take_types(alloc, &information)?;
-    let answer = at_path_by(alloc, &information, &types, subject, chosen, word, path);
+    let mut names = subject.take_names();
+    let answer = at_path_by(
+        alloc,
+        &information,
+        &types,
+        &mut names,
+        subject,
+        chosen,
+        word,
+        path,
+    );
+    subject.keep_names(names);
     subject.keep_types(types);
     subject.keep_information(information);
     answer

@@ -2,12 +2,13 @@
 
 ghost use Rattle.std.specs.Prelude.{◌≡◌, ◌++◌, OnOk};
 ghost use Rattle.var_eval.specs.PathShown.{path_shown};
+ghost use Rattle.var_eval.specs.calls.Names.{AreNames};
 ghost use Rattle.debugger.specs.Variables as definitions;
 
 use causes::NoMemory;
 use pm_text::Text;
 use std::alloc::Global;
-use var_eval::{Shown, VariableFrame, value_of};
+use var_eval::{KnownNames, Shown, VariableFrame, value_by};
 use var_path::Path;
 
 fn push_no_variable(out: &mut Text, name: &[u8]) -> Result<(), NoMemory>
@@ -40,17 +41,21 @@ fn push_shown(out: &mut Text, name: &[u8], word: &str, shown: &Shown) -> Result<
     }
 }
 
-/// Adds the line of what stands at a path, which this word spells, in a frame.
-pub fn push_path(
+/// Adds the line of what stands at a path, which this word spells, in a frame. What is known of names
+/// there serves the next path.
+pub fn push_path<'a>(
     out: &mut Text,
     alloc: Global,
-    looks: &VariableFrame<'_, '_, '_, '_, '_, '_>,
+    looks: &VariableFrame<'_, '_, '_, '_, '_, 'a>,
+    names: &mut KnownNames<'a>,
     word: &str,
     path: &Path<'_>,
 ) -> Result<(), NoMemory>
-    ensures { OnOk result (out.new
-        ≡ out.old ++ definitions.shown_line path.now.name word.now (path_shown looks.now path.now)) }
+    requires { AreNames looks.now.sections looks.now.units names.old }
+    ensures line { OnOk result (out.new ≡ out.old
+        ++ definitions.shown_line path.now.name word.now (path_shown looks.now path.now)) }
+    ensures known { AreNames looks.now.sections looks.now.units names.new }
 {
-    let shown = value_of(alloc, looks, path)?;
+    let shown = value_by(alloc, looks, names, path)?;
     push_shown(out, path.name.as_slice(), word, &shown)
 }

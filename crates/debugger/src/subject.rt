@@ -7,6 +7,7 @@ ghost use Rattle.dwarf_info.specs.Sections.{greatest_section};
 ghost use Rattle.dump_match.specs.States.{StateOperandCount};
 ghost use Rattle.debugger.specs.Recorded as recorded;
 ghost use Rattle.dwarf_types.specs.calls.Known.{AreKnown};
+ghost use Rattle.var_eval.specs.calls.Names.{AreNames};
 ghost use Rattle.debug_frames.specs.Information.{information};
 ghost use Rattle.debugger.specs.Subject.{Spells, subject_on};
 
@@ -20,6 +21,7 @@ use linear_memory::Memory;
 use pm_text::Items;
 use std::alloc::Global;
 use std::marker::Model;
+use var_eval::{KnownNames, no_names};
 use wasm_syntax::{ModuleParts, Seen};
 use wasm_validate::Validated;
 
@@ -32,6 +34,8 @@ pub struct Subject<'a, 'm, 'd, 'b> {
     known: Option<Information<'a>>,
     // Of its units.
     types: Option<KnownTypes>,
+    // Of its units, at an address.
+    names: Option<KnownNames<'a>>,
     matched: StateMatched<'m, 'd, 'b>,
     globals: Items<Seen>,
     memory: Option<Memory>,
@@ -40,6 +44,7 @@ pub struct Subject<'a, 'm, 'd, 'b> {
 impl<'a, 'm, 'd, 'b> Model for Subject<'a, 'm, 'd, 'b> {
     ghost use Rattle.std.specs.Prelude.{◌≡◌, IfSome, option_map};
     ghost use Rattle.dwarf_types.specs.calls.Known.{AreKnown};
+    ghost use Rattle.var_eval.specs.calls.Names.{AreNames};
     ghost use Rattle.debug_frames.specs.Information.{information};
     ghost use Rattle.debugger.specs.Recorded.{recorded_globals, recorded_memory};
     ghost use Rattle.debugger.specs.Subject.{Subject, Spells, subject_on};
@@ -53,6 +58,9 @@ impl<'a, 'm, 'd, 'b> Model for Subject<'a, 'm, 'd, 'b> {
         × IfSome s.known (λ x. x ≡ information s.bytes.now s.matched.module_.customs)
         × IfSome s.types (λ t.
         AreKnown (information s.bytes.now s.matched.module_.customs).units t.arrays)
+        × IfSome s.names (λ n.
+        AreNames (information s.bytes.now s.matched.module_.customs).sections
+        (information s.bytes.now s.matched.module_.customs).units n)
         × (s.globals ≡ recorded_globals s.matched.dump)
         × (option_map (λ m. m.memory) s.memory ≡ recorded_memory s.matched.dump) };
 }
@@ -104,6 +112,7 @@ impl<'a, 'm, 'd, 'b> Subject<'a, 'm, 'd, 'b> {
             bytes,
             known,
             types: None,
+            names: None,
             matched,
             globals,
             memory,
@@ -162,6 +171,25 @@ impl<'a, 'm, 'd, 'b> Subject<'a, 'm, 'd, 'b> {
         ensures { self.new ≡ self.old }
     {
         self.types = Some(types);
+    }
+
+    /// What is known of names at an address, which is taken out where some were asked before.
+    pub(crate) fn take_names(&mut self) -> KnownNames<'a>
+        ensures value { AreNames self.old.information.sections self.old.information.units result }
+        ensures same { self.new ≡ self.old }
+    {
+        match self.names.take() {
+            Some(names) => names,
+            None => no_names(),
+        }
+    }
+
+    /// Keeps what is known of names at an address.
+    pub(crate) fn keep_names(&mut self, names: KnownNames<'a>)
+        requires { AreNames self.old.information.sections self.old.information.units names }
+        ensures { self.new ≡ self.old }
+    {
+        self.names = Some(names);
     }
 
     /// What the bytes of the module say, for another subject, where it was read.

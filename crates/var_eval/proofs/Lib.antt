@@ -7,3 +7,6 @@ mod Told
 mod SourceLaws
 mod NamedLaws
 mod OwnLaws
+mod NameLaws
+mod OffsetLaws
+mod MeantLaws

@@ -32,7 +32,7 @@ use Rattle.var_eval.specs.inner.Told.{Tells}
 -- ---- one more member
 
 -- at a name that is there
-kept_by : (before : List ℕ → Option Entry) (e : Entry) (own name : List ℕ) (b : Bool) (o : Option Entry) → bytes_eq own name ≡ b → before name ≡ o → is_some (before own) ≡ true
+pub kept_by : {A : Type 0} (before : List ℕ → Option A) (e : A) (own name : List ℕ) (b : Bool) (o : Option A) → bytes_eq own name ≡ b → before name ≡ o → is_some (before own) ≡ true
     → before name ≡ option_or (before name) (if b then Some e else None)
 kept_by before e own name b (Some x) tie is there = rw is refl
 kept_by before e own name false None tie is there = rw is refl
@@ -43,7 +43,7 @@ pub kept_before : (names : MemberNames) (e : Entry) (own : List ℕ) → is_some
 kept_before names e own there name = kept_by (first_by names) e own name (bytes_eq own name) (first_by names name) refl refl there
 
 -- at a name that is not there
-added_by : (before after : List ℕ → Option Entry) (e : Entry) (own name : List ℕ) (b : Bool) (o : Option Entry) → bytes_eq own name ≡ b → before name ≡ o → is_some (before own) ≡ false
+pub added_by : {A : Type 0} (before after : List ℕ → Option A) (e : A) (own name : List ℕ) (b : Bool) (o : Option A) → bytes_eq own name ≡ b → before name ≡ o → is_some (before own) ≡ false
     → after name ≡ cond b (Some e) (before name) → after name ≡ option_or (before name) (if b then Some e else None)
 added_by before after e own name false (Some x) tie is none new = new ∙ rw is refl
 added_by before after e own name false None tie is none new = new ∙ rw is refl

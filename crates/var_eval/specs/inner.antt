@@ -2,3 +2,4 @@ pub mod Told
 pub mod PathTold
 pub mod Counted
 pub mod Named
+pub mod Adding

@@ -11,33 +11,49 @@ use crate::dead_end::DeadEnd;
 use crate::meeting::meet;
 use crate::named::{KnownMembers, NamedMember, known_member};
 use crate::part::Part;
+use crate::same_name::is_same;
 use crate::sourced_place::SourcedPlace;
 use dwarf_entries::name_or_empty;
 use dwarf_expr::FrameView;
 use dwarf_info::{Entry, Units};
 use dwarf_types::{Class, TypeStanding, TypedUnits, class_of, type_of};
+use pm_text::Items;
 use std::alloc::Global;
 use var_values::{Bits, Item, Mark, constant_source, is_static, items_of, part_at};
 
-fn has_name(units: &Units<'_>, name: &[u8], item: &Item<'_, '_>) -> bool
+/// Whether a member has a name, where texts differ from it at these places (see `is_same`).
+fn has_name<'r, 'a>(
+    units: &'r Units<'a>,
+    name: &[u8],
+    places: &mut Items<usize>,
+    item: &Item<'r, 'a>,
+) -> bool
     ensures { result ≡ steps.has_name units.now name.now item.now }
 {
     match item {
-        Item::Member(standing) => { name_or_empty(units, &standing.entry().attributes) == name }
+        Item::Member(standing) => {
+            is_same(
+                name_or_empty(units, &standing.entry().attributes),
+                name,
+                places,
+            )
+        }
         Item::Unknown(_) => false,
     }
 }
 
 /// The first of a name, among what stands in a structure.
 fn member_named<'i, 'r, 'a>(
+    alloc: Global,
     units: &'r Units<'a>,
     name: &[u8],
     items: &'i [Item<'r, 'a>],
 ) -> Option<&'i Item<'r, 'a>>
     ensures { option_copied result ≡ find (steps.has_name units.now name.now) items.now }
 {
+    let mut places = Items::new(alloc);
     for item in items {
-        if has_name(units, name, item) {
+        if has_name(units, name, &mut places, item) {
             return Some(item);
         }
     }
@@ -144,7 +160,7 @@ fn found_part<'r, 'k, 'a>(
     let Ok(items) = items_of(alloc, units, view, standing, &spot.place()) else {
         return Err(DeadEnd::NoMemory);
     };
-    match member_named(units.units(), name, items.as_slice()) {
+    match member_named(alloc, units.units(), name, items.as_slice()) {
         Some(item) => item_part(units, item, spot, past),
         None => Err(DeadEnd::Marked(Mark::UnsupportedType)),
     }

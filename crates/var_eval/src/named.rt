@@ -19,7 +19,7 @@ use std::collections::BTreeMap;
 use std::marker::Model;
 
 /// Longer names are not kept: many of them may share their bytes, and comparing takes their length.
-const LONGEST_NAME: usize = 128;
+pub const LONGEST_NAME: usize = 128;
 
 /// So many steps of a path look through all members, which takes less time than ordering them.
 const FEW_STEPS: u32 = 8;

@@ -3,10 +3,11 @@
 ghost use Rattle.std.specs.Prelude.{◌≡◌, IfOk};
 ghost use Rattle.var_eval.specs.Shown.{shown_as};
 ghost use Rattle.var_eval.specs.PathShown as definitions;
+ghost use Rattle.var_eval.specs.calls.Names.{AreNames};
 ghost use Rattle.var_eval.specs.inner.PathTold.{shown_by};
 
-use crate::choice::chosen_by;
-use crate::{Part, Shown, VariableFrame, source_of, walk};
+use crate::known_names::chosen_known;
+use crate::{KnownNames, Part, Shown, VariableFrame, no_names, source_of, walk};
 use causes::NoMemory;
 use dwarf_entries::Standing;
 use dwarf_expr::FrameView;
@@ -70,14 +71,53 @@ fn shown_behind<'r, 'a>(
     }
 }
 
+/// What is shown behind steps from a variable, if there is one.
+fn shown_of_variable<'r, 'a>(
+    alloc: Global,
+    frame: &VariableFrame<'_, 'r, '_, '_, '_, 'a>,
+    steps: &[Step<'_>],
+    variable: Option<Standing<'r, 'a>>,
+) -> Result<Shown, NoMemory>
+    ensures { IfOk result (λ shown.
+        shown ≡ definitions.shown_behind frame.now steps.now variable.entry) }
+{
+    match variable {
+        Some(variable) => shown_behind(alloc, frame, steps, &variable),
+        None => Ok(Shown::NoVariable),
+    }
+}
+
 /// What is shown of the variable that a path names, or of the part of it that is behind the path's
-/// steps.
+/// steps. What is known of the names of an address serves the next path there.
 ///
 /// # Errors
 ///
 /// Want of memory also where the steps lead 2^118 bytes from where a variable, or what a pointer
 /// leads to, begins: millions of steps do.
-#[tactic(auto, unfolding(crate::specs::PathShown::path_shown, crate::specs::Chosen::chosen))]
+#[tactic(auto, using(crate::proofs::ShownLaws::shown_same), unfolding(crate::specs::PathShown::path_shown))]
+pub fn value_by<'r, 'a>(
+    alloc: Global,
+    frame: &VariableFrame<'_, 'r, '_, '_, '_, 'a>,
+    names: &mut KnownNames<'a>,
+    path: &Path<'_>,
+) -> Result<Shown, NoMemory>
+    requires { AreNames frame.now.sections frame.now.units names.old }
+    ensures is { IfOk result (λ shown. shown ≡ definitions.path_shown frame.now path.now) }
+    ensures known { AreNames frame.now.sections frame.now.units names.new }
+{
+    let variable = chosen_known(
+        alloc,
+        frame.sections(),
+        frame.units(),
+        frame.address(),
+        frame.subprogram(),
+        names,
+        path.name.as_slice(),
+    )?;
+    shown_of_variable(alloc, frame, path.steps.as_slice(), variable)
+}
+
+/// The same of one path alone.
 pub fn value_of<'r, 'a>(
     alloc: Global,
     frame: &VariableFrame<'_, 'r, '_, '_, '_, 'a>,
@@ -85,17 +125,7 @@ pub fn value_of<'r, 'a>(
 ) -> Result<Shown, NoMemory>
     ensures { IfOk result (λ shown. shown ≡ definitions.path_shown frame.now path.now) }
 {
-    let name = path.name.as_slice();
-    let variable = chosen_by(
-        alloc,
-        frame.sections(),
-        frame.units(),
-        frame.address(),
-        frame.subprogram(),
-        name,
-    )?;
-    match variable {
-        Some(variable) => shown_behind(alloc, frame, path.steps.as_slice(), &variable),
-        None => Ok(Shown::NoVariable),
-    }
+    let mut names = no_names();
+    let shown = value_by(alloc, frame, &mut names, path)?;
+    Ok(shown)
 }
