@@ -50,7 +50,7 @@ fn values_are_listed(rt: HostRuntime) -> Result<(), Fail> {
 /// How many frames a dump has, where it can be one of the module.
 fn frames_of(alloc: Global, m: &Validated, dump: &[u8]) -> Option<usize> {
     match decode_dump(alloc, dump) {
-        Ok(dump) => match matches(m, &dump) {
+        Ok(dump) => match matches(alloc, m, &dump) {
             Ok(_) => Some(dump.frames.len()),
             Err(_) => None,
         },

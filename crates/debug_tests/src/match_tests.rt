@@ -45,8 +45,8 @@ fn is_judged(
 ) -> bool {
     match decode_dump(alloc, dump) {
         Ok(dump) => match judge {
-            Judge::Trap => matches(m, &dump).err() == wanted,
-            Judge::State => matches_state(m, &dump).err() == wanted,
+            Judge::Trap => matches(alloc, m, &dump).err() == wanted,
+            Judge::State => matches_state(alloc, m, &dump).err() == wanted,
         },
         Err(_) => false,
     }

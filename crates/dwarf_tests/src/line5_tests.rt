@@ -4,9 +4,9 @@
 //! last.
 
 use dwarf_bytes::ReadFault;
-use dwarf_info::{Sections, Sections5};
+use dwarf_info::{PreparedSections, Sections, Sections5};
 use dwarf_line::{Directories, LineFile, Lines, Row};
-use dwarf5_line::read_lines5;
+use dwarf5_line::{read_lines5, scan_lines5, scans5};
 use std::alloc::Global;
 
 // A directory and two files, by strings. Rows at 2, 14, 21 and 43, end 49.
@@ -58,6 +58,24 @@ const BROKEN: [(usize, u8); 8] = [
     (32, 0x0C),
     (40, 0x0C),
     (0, 0x43),
+];
+
+// Two programs of version 3, of which the first has the header of the second in an opcode that is
+// passed over, so that they have the opcodes behind it in common. Rows at 16 and 20, end 20.
+const SHARING: [u8; 49] = [
+    0x2D, 0x00, 0x00, 0x00, 0x03, 0x00, 0x07, 0x00, 0x00, 0x00, 0x01, 0x01, 0xFB, 0x0E, 0x01, 0x00,
+    0x00, 0x00, 0x12, 0x80, 0x19, 0x00, 0x00, 0x00, 0x03, 0x00, 0x07, 0x00, 0x00, 0x00, 0x01, 0x01,
+    0xFB, 0x0E, 0x01, 0x00, 0x00, 0x00, 0x05, 0x02, 0x10, 0x00, 0x00, 0x00, 0x01, 0x39, 0x00, 0x01,
+    0x01,
+];
+
+// Offsets in it, and the bounds of the program there.
+const BOUNDS: [(usize, Option<(u32, u32)>); 5] = [
+    (0, Some((16, 20))),
+    (20, Some((16, 20))),
+    (20, Some((16, 20))),
+    (17, None),
+    (0, Some((16, 20))),
 ];
 
 // A program with its texts, and what it says.
@@ -221,4 +239,26 @@ fn broken_programs_are_refused(rt: HostRuntime) {
     // The last name does not end, or does not begin.
     assert!(rt; is_unreadable(rt.alloc(), &ASSEMBLED, &ASSEMBLED_NAMES[..14]));
     assert!(rt; is_unreadable(rt.alloc(), &ASSEMBLED, &ASSEMBLED_NAMES[..11]));
+}
+
+/// These are the bounds of the programs at these offsets, scanned one after the other.
+fn are_bounds(alloc: Global, line: &[u8], rows: &[(usize, Option<(u32, u32)>)]) -> bool {
+    let Ok(prepared) = PreparedSections::new(alloc, &sections(line, &[], &[])) else {
+        return false;
+    };
+    let mut scans = scans5(alloc, &prepared);
+    for (at, bounds) in rows {
+        match scan_lines5(alloc, &prepared, *at, &mut scans) {
+            Ok(Some(hull)) if *bounds == Some((hull.first, hull.end)) => {}
+            Ok(None) if bounds.is_none() => {}
+            _ => return false,
+        }
+    }
+    true
+}
+
+#[test]
+fn programs_are_scanned(rt: HostRuntime) {
+    assert!(rt; are_bounds(rt.alloc(), &SHARING, &BOUNDS));
+    assert!(rt; are_bounds(rt.alloc(), &SMALL, &[(0, Some((2, 49)))]));
 }

@@ -5,7 +5,6 @@ ghost use Rattle.wasm_bytes.specs.Reading.{mapped, u32_item};
 
 use pm_text::{Items, Text};
 use std::alloc::Global;
-use std::test::Fail;
 use wasm_bytes::{
     Gather, GatherUntilDone, Item, ItemFault, Reader, Run, SectionFrame, gather_count,
     gather_to_end, gather_until_done, items_to_end, named_section, section_at,
@@ -17,32 +16,57 @@ const BYTES: [u8; 13] = [
     0x00, 0x09, 0x02, 0x61, 0x62, 0x02, 0x01, 0x80, 0x01, 0x01, 0x07, 0x05, 0x06,
 ];
 
-#[test]
-fn lists_are_read(rt: HostRuntime) -> Result<(), Fail> {
-    let mut reader = Reader::new(&BYTES);
-    let lists = named_section::<Items<Items<u32>>>(rt.alloc(), b"ab", &mut reader);
-    let lists = lists.ok().ok_or("the section is there")?;
-    assert!(rt; lists.len() == 2);
-    assert!(rt; matches!(lists.as_slice()[0].as_slice(), [128]));
-    assert!(rt; matches!(lists.as_slice()[1].as_slice(), [7]));
-    let rest = items_to_end::<u32>(rt.alloc(), &mut reader);
-    let rest = rest.ok().ok_or("two numbers are left")?;
-    assert!(rt; matches!(rest.as_slice(), [5, 6]));
-    Ok(())
+fn has_lists(alloc: Global, title: &[u8], reader: &mut Reader<'_>) -> bool {
+    match named_section::<Items<Items<u32>>>(alloc, title, reader) {
+        Ok(lists) => matches!(
+            lists.as_slice(),
+            [first, second]
+                if matches!(first.as_slice(), [128]) && matches!(second.as_slice(), [7])
+        ),
+        Err(_) => false,
+    }
+}
+
+fn has_numbers(alloc: Global, reader: &mut Reader<'_>) -> bool {
+    match items_to_end::<u32>(alloc, reader) {
+        Ok(numbers) => matches!(numbers.as_slice(), [5, 6]),
+        Err(_) => false,
+    }
 }
 
 #[test]
-fn a_text_and_a_run_are_read(rt: HostRuntime) -> Result<(), Fail> {
+fn lists_are_read(rt: HostRuntime) {
+    let mut reader = Reader::new(&BYTES);
+    let lists = has_lists(rt.alloc(), b"ab", &mut reader);
+    let rest = has_numbers(rt.alloc(), &mut reader);
+    assert!(rt; lists && rest);
+}
+
+fn has_name(alloc: Global, reader: &mut Reader<'_>) -> bool {
+    match Text::read(alloc, reader) {
+        Ok(name) => name.as_str() == "ab",
+        Err(_) => false,
+    }
+}
+
+fn has_run(alloc: Global, reader: &mut Reader<'_>) -> bool {
+    match Run::read(alloc, reader) {
+        Ok(run) => matches!(run.as_slice(), [0x01, 0x80]),
+        Err(_) => false,
+    }
+}
+
+fn has_cut_run(alloc: Global, reader: &mut Reader<'_>) -> bool {
+    matches!(Run::read(alloc, reader), Err(ItemFault::At(11)))
+}
+
+#[test]
+fn a_text_and_a_run_are_read(rt: HostRuntime) {
     let mut reader = Reader::starting_at(&BYTES, 2);
-    let name = Text::read(rt.alloc(), &mut reader);
-    let name = name.ok().ok_or("the name is there")?;
-    assert!(rt; name.as_str() == "ab");
-    let run = Run::read(rt.alloc(), &mut reader);
-    let run = run.ok().ok_or("two bytes are there")?;
-    assert!(rt; matches!(run.as_slice(), [0x01, 0x80]));
-    let cut = Run::read(rt.alloc(), &mut Reader::starting_at(&BYTES, 10));
-    assert!(rt; matches!(cut, Err(ItemFault::At(11))));
-    Ok(())
+    let name = has_name(rt.alloc(), &mut reader);
+    let run = has_run(rt.alloc(), &mut reader);
+    assert!(rt; name && run);
+    assert!(rt; has_cut_run(rt.alloc(), &mut Reader::starting_at(&BYTES, 10)));
 }
 
 #[derive(Drop)]
@@ -68,18 +92,22 @@ impl<'a> GatherUntilDone<'a> for Kept {
     }
 }
 
+/// Whether two numbers are gathered, then those up to the third, and then the rest.
+fn gathers(alloc: Global, kept: &mut Kept, reader: &mut Reader<'_>) -> bool {
+    gather_count(alloc, 2, kept, reader).is_ok()
+        && gather_until_done(alloc, kept, reader).is_ok()
+        && kept.is_done()
+        && gather_to_end(alloc, kept, reader).is_ok()
+}
+
 #[test]
-fn elements_are_gathered(rt: HostRuntime) -> Result<(), Fail> {
+fn elements_are_gathered(rt: HostRuntime) {
     let mut reader = Reader::new(&[1, 2, 3, 4, 5]);
     let mut kept = Kept {
         numbers: Items::new(rt.alloc()),
     };
-    assert!(rt; gather_count(rt.alloc(), 2, &mut kept, &mut reader).is_ok());
-    assert!(rt; gather_until_done(rt.alloc(), &mut kept, &mut reader).is_ok());
-    assert!(rt; kept.is_done());
-    assert!(rt; gather_to_end(rt.alloc(), &mut kept, &mut reader).is_ok());
-    assert!(rt; matches!(kept.numbers.as_slice(), [1, 2, 3, 4, 5]));
-    Ok(())
+    let all = gathers(rt.alloc(), &mut kept, &mut reader);
+    assert!(rt; all && matches!(kept.numbers.as_slice(), [1, 2, 3, 4, 5]));
 }
 
 // A module with the type section, the function section and the code section of one empty function.
@@ -88,17 +116,45 @@ const MODULE: [u8; 24] = [
     0x01, 0x00, 0x0A, 0x04, 0x01, 0x02, 0x00, 0x0B,
 ];
 
-const fn frame(id: u8, at: usize, end: usize) -> Result<SectionFrame, usize> {
-    Ok(SectionFrame { id, at, end })
+/// Offsets, and the sections that stand there or the offset of what is wrong.
+const FRAMES: [(usize, Result<SectionFrame, usize>); 5] = [
+    (
+        8,
+        Ok(SectionFrame {
+            id: 1,
+            at: 10,
+            end: 14,
+        }),
+    ),
+    (
+        14,
+        Ok(SectionFrame {
+            id: 3,
+            at: 16,
+            end: 18,
+        }),
+    ),
+    (
+        18,
+        Ok(SectionFrame {
+            id: 10,
+            at: 20,
+            end: 24,
+        }),
+    ),
+    (24, Err(24)),
+    (1, Err(1)),
+];
+
+fn is_frame(bytes: &[u8], at: usize, frame: Result<SectionFrame, usize>) -> bool {
+    at <= bytes.len() && section_at(bytes, at) == frame
 }
 
 #[test]
 fn frames_are_found(rt: HostRuntime) {
-    assert!(rt; section_at(&MODULE, 8) == frame(1, 10, 14));
-    assert!(rt; section_at(&MODULE, 14) == frame(3, 16, 18));
-    assert!(rt; section_at(&MODULE, 18) == frame(10, 20, 24));
-    assert!(rt; section_at(&MODULE, 24) == Err(24));
-    assert!(rt; section_at(&MODULE, 1) == Err(1));
-    assert!(rt; section_at(&MODULE[..23], 18) == Err(19));
-    assert!(rt; section_at(&MODULE[..19], 18) == Err(19));
+    let wrong = FRAMES
+        .iter()
+        .position(|(at, frame)| !is_frame(&MODULE, *at, *frame));
+    assert_eq!(rt; wrong, None);
+    assert!(rt; is_frame(&MODULE[..23], 18, Err(19)) && is_frame(&MODULE[..19], 18, Err(19)));
 }

@@ -57,22 +57,28 @@ const S64: [Row<i64>; 2] = [
     (&LONG, 0, Err(LebFault::TooLong)),
 ];
 
+fn is_u32(row: &Row<u32>) -> bool {
+    row.1 <= row.0.len() && read_u32(row.0, row.1) == row.2
+}
+
+fn is_u64(row: &Row<u64>) -> bool {
+    row.1 <= row.0.len() && read_u64(row.0, row.1) == row.2
+}
+
+fn is_s32(row: &Row<i32>) -> bool {
+    row.1 <= row.0.len() && read_s32(row.0, row.1) == row.2
+}
+
+fn is_s64(row: &Row<i64>) -> bool {
+    row.1 <= row.0.len() && read_s64(row.0, row.1) == row.2
+}
+
 #[test]
 fn unsigned_numbers(rt: HostRuntime) {
-    for (bytes, at, read) in U32 {
-        assert!(rt; at <= bytes.len() && read_u32(bytes, at) == read);
-    }
-    for (bytes, at, read) in U64 {
-        assert!(rt; at <= bytes.len() && read_u64(bytes, at) == read);
-    }
+    assert!(rt; U32.iter().all(|row| is_u32(row)) && U64.iter().all(|row| is_u64(row)));
 }
 
 #[test]
 fn signed_numbers(rt: HostRuntime) {
-    for (bytes, at, read) in S32 {
-        assert!(rt; at <= bytes.len() && read_s32(bytes, at) == read);
-    }
-    for (bytes, at, read) in S64 {
-        assert!(rt; at <= bytes.len() && read_s64(bytes, at) == read);
-    }
+    assert!(rt; S32.iter().all(|row| is_s32(row)) && S64.iter().all(|row| is_s64(row)));
 }

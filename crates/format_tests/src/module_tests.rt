@@ -1,12 +1,11 @@
 //! Modules byte by byte, with offsets that were worked out by hand from the binary format.
 
 ghost use Rattle.std.specs.Prelude.{◌≡◌, ◌∷◌, [], IfOk};
-ghost use Rattle.format_tests.specs.inner.Samples.{division};
+ghost use Rattle.format_tests.specs.inner.Samples.{divides, exported, narrow, division};
 
 use causes::NoMemory;
 use pm_text::{Items, Text};
 use std::alloc::Global;
-use std::process::Abort;
 use std::test::Fail;
 use wasm_decode::{DecodeFault, decode, function_names};
 use wasm_encode::encode;
@@ -53,62 +52,80 @@ const LARGE_MEMORY: [u8; 14] = [
     0x00, 0x61, 0x73, 0x6D, 0x01, 0x00, 0x00, 0x00, 0x05, 0x04, 0x01, 0x00, 0x81, 0x20,
 ];
 
-/// The third instruction of the first body.
-fn third_instruction(alloc: Global, bytes: &[u8]) -> Result<Op, Fail> {
-    let module = decode(alloc, bytes)?;
-    let body = module.parts().bodies.get(0).ok_or("a body")?;
-    let op = body.ops.get(2).ok_or("a third instruction")?;
-    Ok(*op)
+/// Whether the third instruction of the first body is the division.
+fn has_division(parts: &ModuleParts) -> bool {
+    match parts.bodies.get(0) {
+        Some(body) => match body.ops.get(2) {
+            Some(op) => is_division_at(op, 5),
+            None => false,
+        },
+        None => false,
+    }
+}
+
+fn is_division_at(op: &Op, at: u32) -> bool {
+    op.at == at && op.len == 1 && op.code == Instr::Basic(Basic::Binary(ValType::I32, Binary::DivS))
+}
+
+fn has_division_in(alloc: Global, bytes: &[u8]) -> bool {
+    match decode(alloc, bytes) {
+        Ok(module) => has_division(module.parts()),
+        Err(_) => false,
+    }
 }
 
 #[test]
-fn a_division_is_read(rt: HostRuntime) -> Result<(), Fail> {
-    let op = third_instruction(rt.alloc(), &DIVISION)?;
-    assert!(rt; op.at == 5 && op.len == 1);
-    assert!(rt; op.code == Instr::Basic(Basic::Binary(ValType::I32, Binary::DivS)));
-    Ok(())
+fn a_division_is_read(rt: HostRuntime) {
+    assert!(rt; has_division_in(rt.alloc(), &DIVISION));
 }
 
-fn assert_refused(rt: &impl Abort, alloc: Global, bytes: &[u8], fault: DecodeFault) {
-    assert_eq!(rt; decode(alloc, bytes).err(), Some(fault));
+fn is_refused(alloc: Global, bytes: &[u8], fault: DecodeFault) -> bool {
+    match decode(alloc, bytes) {
+        Ok(_) => false,
+        Err(found) => found == fault,
+    }
 }
 
-#[test]
-fn refusals_name_the_place(rt: HostRuntime) {
-    let alloc = rt.alloc();
-    // a size past the end
-    assert_refused(
-        &rt,
-        alloc,
-        &DIVISION[..40],
-        DecodeFault::Malformed { at: 31 },
-    );
-    assert_refused(&rt, alloc, &TOO_LONG, DecodeFault::Malformed { at: 14 });
-    assert_refused(&rt, alloc, &FLOAT_TYPE, DecodeFault::Float { at: 13 });
-    assert_refused(
-        &rt,
-        alloc,
-        &MEMORY_IMPORT,
-        DecodeFault::ImportKind { index: 0 },
-    );
+fn breaks_at(alloc: Global, bytes: &[u8], at: usize) -> bool {
+    is_refused(alloc, bytes, DecodeFault::Malformed { at })
+}
+
+fn are_refused(alloc: Global) -> bool {
     let limit = DecodeFault::Limit {
         what: Quantity::Memory,
         count: 4_097,
     };
-    assert_refused(&rt, alloc, &LARGE_MEMORY, limit);
-}
-
-/// Whether the first function has this name.
-fn is_named(alloc: Global, bytes: &[u8; 54], name: &str) -> Result<bool, Fail> {
-    let module = decode(alloc, bytes)?;
-    let names = function_names(alloc, bytes, &module)?;
-    Ok(names.get(0) == Some(name))
+    is_refused(alloc, &FLOAT_TYPE, DecodeFault::Float { at: 13 })
+        && is_refused(alloc, &MEMORY_IMPORT, DecodeFault::ImportKind { index: 0 })
+        && is_refused(alloc, &LARGE_MEMORY, limit)
 }
 
 #[test]
-fn names_of_functions_are_read(rt: HostRuntime) -> Result<(), Fail> {
-    assert!(rt; is_named(rt.alloc(), &NAMED, "q")?);
-    Ok(())
+fn refusals_name_the_place(rt: HostRuntime) {
+    // a size past the end
+    let cut = breaks_at(rt.alloc(), &DIVISION[..40], 31);
+    let long = breaks_at(rt.alloc(), &TOO_LONG, 14);
+    assert!(rt; cut && long && are_refused(rt.alloc()));
+}
+
+fn has_name(alloc: Global, bytes: &[u8; 54], module: &Module, name: &str) -> bool {
+    match function_names(alloc, bytes, module) {
+        Ok(names) => names.get(0) == Some(name),
+        Err(_) => false,
+    }
+}
+
+/// Whether the first function has this name.
+fn is_named(alloc: Global, bytes: &[u8; 54], name: &str) -> bool {
+    match decode(alloc, bytes) {
+        Ok(module) => has_name(alloc, bytes, &module, name),
+        Err(_) => false,
+    }
+}
+
+#[test]
+fn names_of_functions_are_read(rt: HostRuntime) {
+    assert!(rt; is_named(rt.alloc(), &NAMED, "q"));
 }
 
 fn one<T: Drop>(alloc: Global, item: T) -> Result<Items<T>, NoMemory>
@@ -125,8 +142,8 @@ fn op(at: u32, code: Instr) -> Op
     Op { at, len: 1, code }
 }
 
-fn division(alloc: Global) -> Result<ModuleParts, NoMemory>
-    ensures { IfOk result (λ m. m ≡ division) }
+fn bodies(alloc: Global) -> Result<Items<Body>, NoMemory>
+    ensures { IfOk result (λ items. items ≡ divides ∷ []) }
 {
     let ops = [
         op(1, Instr::Basic(Basic::LocalGet(0))),
@@ -134,33 +151,55 @@ fn division(alloc: Global) -> Result<ModuleParts, NoMemory>
         op(5, Instr::Basic(Basic::Binary(ValType::I32, Binary::DivS))),
         op(6, Instr::End),
     ];
+    let ops = Items::from_slice(alloc, &ops)?;
     let code = Body {
         groups: Items::new(alloc),
-        ops: Items::from_slice(alloc, &ops)?,
+        ops,
         targets: Items::new(alloc),
         start: 0,
     };
+    one(alloc, code)
+}
+
+fn exports(alloc: Global) -> Result<Items<Export>, NoMemory>
+    ensures { IfOk result (λ items. items ≡ exported ∷ []) }
+{
+    let name = Text::from_str(alloc, "div")?;
     let export = Export {
-        name: Text::from_str(alloc, "div")?,
+        name,
         kind: ExportKind::Function,
         index: 0,
     };
-    let ftype = FuncType {
-        params: Items::from_slice(alloc, &[ValType::I32, ValType::I32])?,
-        results: Items::from_slice(alloc, &[ValType::I32])?,
-    };
+    one(alloc, export)
+}
+
+fn types(alloc: Global) -> Result<Items<FuncType>, NoMemory>
+    ensures { IfOk result (λ items. items ≡ narrow ∷ []) }
+{
+    let params = Items::from_slice(alloc, &[ValType::I32, ValType::I32])?;
+    let results = Items::from_slice(alloc, &[ValType::I32])?;
+    one(alloc, FuncType { params, results })
+}
+
+fn division(alloc: Global) -> Result<ModuleParts, NoMemory>
+    ensures { IfOk result (λ m. m ≡ division) }
+{
+    let types = types(alloc)?;
+    let functions = Items::from_slice(alloc, &[0])?;
+    let exports = exports(alloc)?;
+    let bodies = bodies(alloc)?;
     Ok(ModuleParts {
-        types: one(alloc, ftype)?,
+        types,
         imports: Items::new(alloc),
-        functions: Items::from_slice(alloc, &[0])?,
+        functions,
         tables: Items::new(alloc),
         memories: Items::new(alloc),
         globals: Items::new(alloc),
-        exports: one(alloc, export)?,
+        exports,
         start: None,
         elements: Items::new(alloc),
         segments: Items::new(alloc),
-        bodies: one(alloc, code)?,
+        bodies,
         customs: Items::new(alloc),
         plain_bytes: 0,
     })
@@ -178,17 +217,24 @@ fn encoded_division(alloc: Global) -> Result<Vec<u8>, NoMemory> {
     encode(alloc, &module)
 }
 
-/// Whether the bytes are read as the division, but for places.
-fn is_division(alloc: Global, bytes: &[u8]) -> Result<bool, Fail> {
-    let module = division_module(alloc)?;
-    let read = decode(alloc, bytes)?;
-    Ok(same_code(&module, &read))
+/// Whether the bytes are read as this module, but for places.
+fn is_read(alloc: Global, bytes: &[u8], module: &Module) -> bool {
+    match decode(alloc, bytes) {
+        Ok(read) => same_code(module, &read),
+        Err(_) => false,
+    }
+}
+
+fn is_division(alloc: Global, bytes: &[u8]) -> bool {
+    match division_module(alloc) {
+        Ok(module) => is_read(alloc, bytes, &module),
+        Err(NoMemory) => false,
+    }
 }
 
 #[test]
 fn what_is_written_is_read_again(rt: HostRuntime) -> Result<(), Fail> {
     let bytes = encoded_division(rt.alloc())?;
-    assert!(rt; bytes.as_slice() == DIVISION.as_slice());
-    assert!(rt; is_division(rt.alloc(), &bytes)?);
+    assert!(rt; bytes.as_slice() == DIVISION.as_slice() && is_division(rt.alloc(), &bytes));
     Ok(())
 }

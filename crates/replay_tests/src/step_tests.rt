@@ -406,13 +406,13 @@ fn states_do_not_depend_on_checkpoints(rt: HostRuntime) {
     assert!(rt; divided && branched && deeper && read && started);
 }
 
-/// A recursion of depth n makes 8 n + 5 steps. At 16, 32, 64 and 128 steps there are 16
-/// checkpoints, of which every second one goes.
+/// A recursion of depth n makes 8 n + 5 steps. From 16 steps on there are 16 checkpoints one step
+/// apart at first, of which one goes for each that is added.
 #[test]
-fn every_second_checkpoint_goes(rt: HostRuntime) {
+fn sixteen_checkpoints_stay(rt: HostRuntime) {
     let alloc = rt.alloc();
     let short = kept(alloc, 1, 1) == Told::Number(13);
-    let longer = kept(alloc, 4, 1) == Told::Number(10);
+    let longer = kept(alloc, 4, 1) == Told::Number(16);
     let longest = kept(alloc, 30, 1) == Told::Number(16);
     let far = kept(alloc, 30, 1_000) == Told::Number(1);
     assert!(rt; short && longer && longest && far);

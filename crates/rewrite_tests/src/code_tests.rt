@@ -2,23 +2,43 @@
 
 use causes::NoMemory;
 use pm_text::Items;
-use rewrite_code::CodeWriter;
+use rewrite_code::{CodeWriter, OperandPlace, OperandPlaces};
 use std::alloc::Global;
-use std::test::Fail;
-use wasm_syntax::{Body, Instr, Jump, LocalGroup, ValType};
+use wasm_syntax::{Body, Instr, Jump, LocalGroup, Op, ValType};
+
+fn is_op(op: &Op, at: usize, code: &Instr) -> bool {
+    op.at as usize == at && op.len == 0 && op.code == *code
+}
 
 // Each instruction at the offset of its number, with length 0.
-pub fn is_code(body: &Body, expected: &[Instr]) -> bool {
+fn is_code(body: &Body, expected: &[Instr]) -> bool {
     let ops = body.ops.as_slice();
     if ops.len() != expected.len() {
         return false;
     }
     for i in 0..ops.len() {
-        if ops[i].at as usize != i || ops[i].len != 0 || ops[i].code != expected[i] {
+        if !is_op(&ops[i], i, &expected[i]) {
             return false;
         }
     }
     body.start == 0
+}
+
+/// Whether these instructions were written.
+pub fn is_written(alloc: Global, writer: CodeWriter, expected: &[Instr]) -> bool {
+    match writer.finish(Items::new(alloc)) {
+        Ok(body) => is_code(&body, expected),
+        Err(_) => false,
+    }
+}
+
+/// Places of operands, the deepest first.
+pub fn places_of(alloc: Global, items: &[OperandPlace]) -> Result<OperandPlaces, NoMemory> {
+    let mut places = OperandPlaces::new(alloc);
+    for item in items {
+        places.push(*item)?;
+    }
+    Ok(places)
 }
 
 fn table(writer: &mut CodeWriter, targets: &[u32]) -> Result<(), NoMemory> {
@@ -66,24 +86,43 @@ const BRANCHES: [Instr; 14] = [
     Instr::End,
 ];
 
-fn all_branches(alloc: Global) -> Result<Body, NoMemory> {
+fn all_branches(writer: &mut CodeWriter) -> Result<(), NoMemory> {
+    arms(writer)?;
+    branches(writer)
+}
+
+const GROUP: [LocalGroup; 1] = [LocalGroup {
+    count: 2,
+    vtype: ValType::I64,
+}];
+
+fn has_branches(body: &Body) -> bool {
+    is_code(body, &BRANCHES)
+        && matches!(body.targets.as_slice(), [0, 1, 2])
+        && body.groups.len() == 1
+}
+
+fn finishes(writer: CodeWriter, groups: Items<LocalGroup>) -> bool {
+    match writer.finish(groups) {
+        Ok(body) => has_branches(&body),
+        Err(_) => false,
+    }
+}
+
+fn writes_all(alloc: Global, groups: Items<LocalGroup>) -> bool {
     let mut writer = CodeWriter::new(alloc);
-    arms(&mut writer)?;
-    branches(&mut writer)?;
-    let groups = Items::from_slice(
-        alloc,
-        &[LocalGroup {
-            count: 2,
-            vtype: ValType::I64,
-        }],
-    )?;
-    writer.finish(groups)
+    let written = all_branches(&mut writer).is_ok();
+    finishes(writer, groups) && written
+}
+
+fn branches_are_written(alloc: Global) -> bool {
+    match Items::from_slice(alloc, &GROUP) {
+        Ok(groups) => writes_all(alloc, groups),
+        Err(_) => false,
+    }
 }
 
 #[test]
-fn writes_branches(rt: HostRuntime) -> Result<(), Fail> {
-    let body = all_branches(rt.alloc())?;
-    let lists = matches!(body.targets.as_slice(), [0, 1, 2]) && body.groups.len() == 1;
-    assert!(rt; is_code(&body, &BRANCHES) && lists);
-    Ok(())
+fn writes_branches(rt: HostRuntime) {
+    assert!(rt; branches_are_written(rt.alloc()));
 }

@@ -1,9 +1,9 @@
 //! Locals that are worked out where a frame is left, found in a body and written out by hand.
 
-ghost use Rattle.std.specs.Prelude.{◌≡◌, [], length, IfOk};
+ghost use Rattle.std.specs.Prelude.{◌≡◌, []};
 ghost use Rattle.wasm_format_laws.specs.calls.Sized.{Sized};
 
-use crate::code_tests::is_code;
+use crate::code_tests::is_written;
 use crate::modules::valid;
 use causes::NoMemory;
 use index_map::IndexMap;
@@ -11,7 +11,6 @@ use operand_spill::{derivations, exposed};
 use pm_text::Items;
 use rewrite_code::{CodeWriter, Derivation, FunctionContext, Landings, Offsets};
 use std::alloc::Global;
-use std::test::Fail;
 use unwind_rewrite::{close_body, open_body};
 use wasm_syntax::{Basic, Binary, Instr, Jump, ModuleParts, ValType, Value};
 use wasm_validate::Validated;
@@ -77,11 +76,14 @@ pub fn around(context: &FunctionContext<'_, '_>, writer: &mut CodeWriter) -> Res
     close_body(context, writer)
 }
 
-fn six_locals(alloc: Global) -> Result<Items<ValType>, NoMemory>
-    ensures { IfOk result (λ types. length types ≡ 6) }
-{
-    let types = Items::from_slice(alloc, &[ValType::I32; 6])?;
-    Ok(types)
+const LOCALS: [ValType; 6] = [ValType::I32; 6];
+
+/// Which instructions of the first function need a guard.
+fn guards(alloc: Global, parts: &ModuleParts) -> Result<Offsets, NoMemory> {
+    match parts.bodies.get(0) {
+        Some(body) => exposed(alloc, parts, body.ops.as_slice()),
+        None => Ok(Offsets::new(alloc)),
+    }
 }
 
 /// Which locals of the first function are worked out, where these instructions need a guard.
@@ -97,92 +99,114 @@ fn found(
     }
 }
 
-fn guards(alloc: Global, parts: &ModuleParts) -> Result<Offsets, NoMemory> {
-    match parts.bodies.get(0) {
-        Some(body) => exposed(alloc, parts, body.ops.as_slice()),
-        None => Ok(Offsets::new(alloc)),
-    }
-}
-
-fn has_exit(alloc: Global, context: &FunctionContext<'_, '_>) -> Result<bool, NoMemory>
+fn has_exit(alloc: Global, context: &FunctionContext<'_, '_>) -> bool
     requires none { context.now.landings ≡ [] }
 {
     let mut writer = CodeWriter::new(alloc);
-    around(context, &mut writer)?;
-    let body = writer.finish(Items::new(alloc))?;
-    Ok(is_code(&body, &EXIT))
+    let written = around(context, &mut writer).is_ok();
+    is_written(alloc, writer, &EXIT) && written
 }
 
-fn works_out(alloc: Global, source: &Validated) -> Result<bool, NoMemory>
-    requires { Sized source.now }
-{
-    let locals = six_locals(alloc)?;
-    let map = IndexMap::new(alloc, source.module())?;
-    let guarded = guards(alloc, map.source())?;
-    let derived = found(alloc, map.source(), locals.as_slice(), &guarded)?;
-    let context = FunctionContext::new(
-        &map,
-        locals,
-        4,
-        0,
-        Some(ValType::I32),
-        Landings::new(alloc),
-        guarded,
-        derived,
-    );
-    let same = has_exit(alloc, &context)?;
-    Ok(same)
+fn has_exit_of(
+    alloc: Global,
+    map: &IndexMap<'_>,
+    locals: Items<ValType>,
+    guarded: Offsets,
+    derived: Items<Derivation>,
+) -> bool {
+    if locals.len() > 6 {
+        return false;
+    }
+    let landings = Landings::new(alloc);
+    let gives = Some(ValType::I32);
+    let context = FunctionContext::new(map, locals, 4, 0, gives, landings, guarded, derived);
+    has_exit(alloc, &context)
 }
 
-fn count(alloc: Global, source: &Validated) -> Result<usize, NoMemory>
-    requires { Sized source.now }
-{
-    let locals = six_locals(alloc)?;
-    let map = IndexMap::new(alloc, source.module())?;
-    let guarded = guards(alloc, map.source())?;
-    let derived = found(alloc, map.source(), locals.as_slice(), &guarded)?;
-    Ok(derived.len())
-}
-
-fn count_in(alloc: Global, bytes: &[u8]) -> Result<Option<usize>, NoMemory> {
-    match valid(alloc, bytes) {
-        Some(source) => {
-            let many = count(alloc, &source)?;
-            Ok(Some(many))
-        }
-        None => Ok(None),
+fn works_out_with(
+    alloc: Global,
+    map: &IndexMap<'_>,
+    guarded: Offsets,
+    derived: Items<Derivation>,
+) -> bool {
+    match Items::from_slice(alloc, &LOCALS) {
+        Ok(locals) => has_exit_of(alloc, map, locals, guarded, derived),
+        Err(_) => false,
     }
 }
 
-/// With `div_s` in place of `xor`.
-fn count_behind(alloc: Global) -> Result<Option<usize>, NoMemory> {
-    let mut bytes = DERIVED;
-    bytes[48] = 0x6d;
-    count_in(alloc, &bytes)
+fn works_out_behind(alloc: Global, map: &IndexMap<'_>, guarded: Offsets) -> bool {
+    match found(alloc, map.source(), &LOCALS, &guarded) {
+        Ok(derived) => works_out_with(alloc, map, guarded, derived),
+        Err(_) => false,
+    }
 }
 
-/// With `div_s` in place of the subtraction.
-fn count_of_divisions(alloc: Global) -> Result<Option<usize>, NoMemory> {
+fn works_out(alloc: Global, map: &IndexMap<'_>) -> bool {
+    match guards(alloc, map.source()) {
+        Ok(guarded) => works_out_behind(alloc, map, guarded),
+        Err(_) => false,
+    }
+}
+
+fn works_out_in(alloc: Global, source: &Validated) -> bool
+    requires { Sized source.now }
+{
+    match IndexMap::new(alloc, source.module()) {
+        Ok(map) => works_out(alloc, &map),
+        Err(_) => false,
+    }
+}
+
+fn is_worked_out(alloc: Global, bytes: &[u8]) -> bool {
+    match valid(alloc, bytes) {
+        Some(source) => works_out_in(alloc, &source),
+        None => false,
+    }
+}
+
+fn counts(alloc: Global, parts: &ModuleParts, guarded: &Offsets, expected: usize) -> bool {
+    match found(alloc, parts, &LOCALS, guarded) {
+        Ok(derived) => derived.len() == expected,
+        Err(_) => false,
+    }
+}
+
+fn counts_of(alloc: Global, parts: &ModuleParts, expected: usize) -> bool {
+    match guards(alloc, parts) {
+        Ok(guarded) => counts(alloc, parts, &guarded, expected),
+        Err(_) => false,
+    }
+}
+
+/// Whether so many locals are worked out in a valid module.
+fn counts_in(alloc: Global, bytes: &[u8], expected: usize) -> bool {
+    match valid(alloc, bytes) {
+        Some(source) => counts_of(alloc, source.module().parts(), expected),
+        None => false,
+    }
+}
+
+/// With `div_s` at a byte.
+fn divided(at: usize) -> [u8; 64] {
     let mut bytes = DERIVED;
-    bytes[41] = 0x6d;
-    count_in(alloc, &bytes)
+    if at < 64 {
+        bytes[at] = 0x6d;
+    }
+    bytes
 }
 
 #[test]
-fn locals_are_worked_out_at_the_exit(rt: HostRuntime) -> Result<(), Fail> {
-    match valid(rt.alloc(), &DERIVED) {
-        Some(v) => assert!(rt; works_out(rt.alloc(), &v)?),
-        None => assert!(rt; false),
-    }
-    Ok(())
+fn locals_are_worked_out_at_the_exit(rt: HostRuntime) {
+    assert!(rt; is_worked_out(rt.alloc(), &DERIVED));
 }
 
 // A local that is given by a division is not worked out, nor is one of which an operand was written
 // before the frame could be left.
 #[test]
-fn locals_behind_a_place_to_leave_are_kept(rt: HostRuntime) -> Result<(), Fail> {
-    assert!(rt; count_in(rt.alloc(), &DERIVED)? == Some(2));
-    assert!(rt; count_behind(rt.alloc())? == Some(1));
-    assert!(rt; count_of_divisions(rt.alloc())? == Some(0));
-    Ok(())
+fn locals_behind_a_place_to_leave_are_kept(rt: HostRuntime) {
+    assert!(rt; counts_in(rt.alloc(), &DERIVED, 2));
+    // with `div_s` in place of `xor`, and of the subtraction
+    assert!(rt; counts_in(rt.alloc(), &divided(48), 1));
+    assert!(rt; counts_in(rt.alloc(), &divided(41), 0));
 }

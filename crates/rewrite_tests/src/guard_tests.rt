@@ -1,18 +1,17 @@
 //! Verdicts of guards, and kinds of traps, which are run on constants.
 
-ghost use Rattle.std.specs.Prelude.{◌≡◌, ◌≤◌, ◌∷◌, [], length, IfOk, OnOk};
+ghost use Rattle.std.specs.Prelude.{◌≤◌, length};
 ghost use Rattle.wasm_format_laws.specs.calls.Sized.{Sized};
 
+use crate::code_tests::places_of;
 use crate::modules::{DIV, valid};
-use causes::NoMemory;
 use guard_insert::{guard, guard_unreachable, kind};
 use index_map::IndexMap;
 use machine_basics::{Globals, Performed, Shared, perform};
 use pm_text::{Items, Stack};
 use rewrite_code::{CodeWriter, FunctionContext, Landings, Offsets, OperandPlace, OperandPlaces};
 use std::alloc::Global;
-use std::test::Fail;
-use wasm_syntax::{Basic, Binary, Body, Instr, ValType, Value};
+use wasm_syntax::{Basic, Binary, Body, Instr, Op, ValType, Value};
 use wasm_validate::Validated;
 
 /// The dividend, the divisor, and the kind with which `i32.div_s` traps on them, or 0: 3 where the
@@ -25,34 +24,54 @@ const DIVISIONS: [(u32, u32, u32); 5] = [
     (1, 1, 0),
 ];
 
-/// What straight code leaves on an empty stack, where it is one value.
-fn verdict(alloc: Global, body: &Body) -> Option<Value> {
-    let mut shared = Shared {
-        globals: Globals::from_vec(Vec::new(alloc)),
-        memory: None,
-    };
-    let mut values = Stack::new(alloc);
-    for op in body.ops.as_slice() {
-        if let Instr::Basic(instruction) = op.code {
-            match perform(&instruction, 0, &mut values, &mut shared) {
-                Performed::Done => (),
-                _ => return None,
-            }
+fn is_done(code: &Instr, values: &mut Stack<Value>, shared: &mut Shared) -> bool {
+    match code {
+        Instr::Basic(instruction) => {
+            matches!(perform(instruction, 0, values, shared), Performed::Done)
+        }
+        _ => true,
+    }
+}
+
+fn all_are_done(ops: &[Op], values: &mut Stack<Value>, shared: &mut Shared) -> bool {
+    for op in ops {
+        if !is_done(&op.code, values, shared) {
+            return false;
         }
     }
+    true
+}
+
+fn only_value(values: &Stack<Value>) -> Option<Value> {
     if values.len() != 1 {
         return None;
     }
     values.peek(0)
 }
 
-fn constants(alloc: Global, dividend: u32, divisor: u32) -> Result<OperandPlaces, NoMemory>
-    ensures { IfOk result (λ places. length places ≡ 2) }
-{
-    let mut places = OperandPlaces::new(alloc);
-    places.push(OperandPlace::Known(Value::I32(dividend)))?;
-    places.push(OperandPlace::Known(Value::I32(divisor)))?;
-    Ok(places)
+fn run(alloc: Global, ops: &[Op], shared: &mut Shared) -> Option<Value> {
+    let mut values = Stack::new(alloc);
+    if all_are_done(ops, &mut values, shared) {
+        only_value(&values)
+    } else {
+        None
+    }
+}
+
+/// What straight code leaves on an empty stack, where it is one value.
+fn verdict(alloc: Global, body: &Body) -> Option<Value> {
+    let mut shared = Shared {
+        globals: Globals::from_vec(Vec::new(alloc)),
+        memory: None,
+    };
+    run(alloc, body.ops.as_slice(), &mut shared)
+}
+
+fn verdict_of(alloc: Global, writer: CodeWriter) -> Option<Value> {
+    match writer.finish(Items::new(alloc)) {
+        Ok(body) => verdict(alloc, &body),
+        Err(_) => None,
+    }
 }
 
 const DIVISION: Basic = Basic::Binary(ValType::I32, Binary::DivS);
@@ -61,99 +80,123 @@ const DIVISION: Basic = Basic::Binary(ValType::I32, Binary::DivS);
 fn guarded(
     alloc: Global,
     context: &FunctionContext<'_, '_>,
-    row: (u32, u32, u32),
-) -> Result<Option<Value>, NoMemory>
-    requires { 4 ≤ context.now.slots }
+    places: &OperandPlaces,
+) -> Option<Value>
+    requires { length places.now ≤ context.now.slots }
 {
-    let places = constants(alloc, row.0, row.1)?;
     let mut writer = CodeWriter::new(alloc);
-    guard(context, &mut writer, &DIVISION, &places)?;
-    let body = writer.finish(Items::new(alloc))?;
-    Ok(verdict(alloc, &body))
+    let written = guard(context, &mut writer, &DIVISION, places).is_ok();
+    let left = verdict_of(alloc, writer);
+    if written { left } else { None }
 }
 
 /// Which kind the code beside it leaves.
 fn kind_left(
     alloc: Global,
     context: &FunctionContext<'_, '_>,
-    row: (u32, u32, u32),
-) -> Result<Option<Value>, NoMemory>
-    requires { 4 ≤ context.now.slots }
+    places: &OperandPlaces,
+) -> Option<Value>
+    requires { length places.now ≤ context.now.slots }
 {
-    let places = constants(alloc, row.0, row.1)?;
     let mut writer = CodeWriter::new(alloc);
-    kind(context, &mut writer, &DIVISION, &places)?;
-    let body = writer.finish(Items::new(alloc))?;
-    Ok(verdict(alloc, &body))
+    let written = kind(context, &mut writer, &DIVISION, places).is_ok();
+    let left = verdict_of(alloc, writer);
+    if written { left } else { None }
 }
 
 /// Whether the guard finds a trap where there is one, and then the kind is this.
 fn leaves(
     alloc: Global,
     context: &FunctionContext<'_, '_>,
-    row: (u32, u32, u32),
-) -> Result<bool, NoMemory>
+    places: &OperandPlaces,
+    expected: u32,
+) -> bool
     requires { 4 ≤ context.now.slots }
 {
-    let found = guarded(alloc, context, row)?;
-    if row.2 == 0 {
-        return Ok(found == Some(Value::I32(0)));
+    if places.len() > 4 {
+        return false;
     }
-    let left = kind_left(alloc, context, row)?;
-    Ok(found == Some(Value::I32(1)) && left == Some(Value::I32(row.2)))
+    let found = guarded(alloc, context, places);
+    if expected == 0 {
+        return found == Some(Value::I32(0));
+    }
+    let left = kind_left(alloc, context, places);
+    found == Some(Value::I32(1)) && left == Some(Value::I32(expected))
 }
 
-fn all_leave(alloc: Global, context: &FunctionContext<'_, '_>) -> Result<bool, NoMemory>
+fn row_leaves(alloc: Global, context: &FunctionContext<'_, '_>, row: &(u32, u32, u32)) -> bool
     requires { 4 ≤ context.now.slots }
 {
-    for row in DIVISIONS {
-        if !leaves(alloc, context, row)? {
-            return Ok(false);
+    let operands = [
+        OperandPlace::Known(Value::I32(row.0)),
+        OperandPlace::Known(Value::I32(row.1)),
+    ];
+    match places_of(alloc, &operands) {
+        Ok(places) => leaves(alloc, context, &places, row.2),
+        Err(_) => false,
+    }
+}
+
+fn all_leave(alloc: Global, context: &FunctionContext<'_, '_>) -> bool
+    requires { 4 ≤ context.now.slots }
+{
+    for row in &DIVISIONS {
+        if !row_leaves(alloc, context, row) {
+            return false;
         }
     }
-    Ok(true)
+    true
 }
 
-fn parameters(alloc: Global) -> Result<Items<ValType>, NoMemory>
-    ensures { IfOk result (λ types. length types ≡ 2) }
-{
-    let types = Items::from_slice(alloc, &[ValType::I32, ValType::I32])?;
-    Ok(types)
+const PARAMETERS: [ValType; 2] = [ValType::I32, ValType::I32];
+
+fn are_judged_with(alloc: Global, map: &IndexMap<'_>, locals: Items<ValType>) -> bool {
+    if locals.len() > 2 {
+        return false;
+    }
+    let landings = Landings::new(alloc);
+    let offsets = Offsets::new(alloc);
+    let gives = Some(ValType::I32);
+    let derived = Items::new(alloc);
+    let context = FunctionContext::new(map, locals, 4, 0, gives, landings, offsets, derived);
+    all_leave(alloc, &context)
 }
 
-fn divisions_are_judged(alloc: Global, source: &Validated) -> Result<bool, NoMemory>
+fn are_judged_by(alloc: Global, map: &IndexMap<'_>) -> bool {
+    match Items::from_slice(alloc, &PARAMETERS) {
+        Ok(locals) => are_judged_with(alloc, map, locals),
+        Err(_) => false,
+    }
+}
+
+fn are_judged(alloc: Global, source: &Validated) -> bool
     requires { Sized source.now }
 {
-    let locals = parameters(alloc)?;
-    let map = IndexMap::new(alloc, source.module())?;
-    let context = FunctionContext::new(
-        &map,
-        locals,
-        4,
-        0,
-        Some(ValType::I32),
-        Landings::new(alloc),
-        Offsets::new(alloc),
-        Items::new(alloc),
-    );
-    let judged = all_leave(alloc, &context)?;
-    Ok(judged)
-}
-
-#[test]
-fn a_guard_finds_a_trap_and_its_kind(rt: HostRuntime) -> Result<(), Fail> {
-    match valid(rt.alloc(), &DIV) {
-        Some(v) => assert!(rt; divisions_are_judged(rt.alloc(), &v)?),
-        None => assert!(rt; false),
+    match IndexMap::new(alloc, source.module()) {
+        Ok(map) => are_judged_by(alloc, &map),
+        Err(_) => false,
     }
-    Ok(())
+}
+
+fn divisions_are_judged(alloc: Global, bytes: &[u8]) -> bool {
+    match valid(alloc, bytes) {
+        Some(source) => are_judged(alloc, &source),
+        None => false,
+    }
 }
 
 #[test]
-fn the_guard_of_unreachable_finds_a_trap(rt: HostRuntime) -> Result<(), Fail> {
-    let mut writer = CodeWriter::new(rt.alloc());
-    guard_unreachable(&mut writer)?;
-    let body = writer.finish(Items::new(rt.alloc()))?;
-    assert!(rt; verdict(rt.alloc(), &body) == Some(Value::I32(1)));
-    Ok(())
+fn a_guard_finds_a_trap_and_its_kind(rt: HostRuntime) {
+    assert!(rt; divisions_are_judged(rt.alloc(), &DIV));
+}
+
+fn unreachable_is_guarded(alloc: Global) -> bool {
+    let mut writer = CodeWriter::new(alloc);
+    let written = guard_unreachable(&mut writer).is_ok();
+    verdict_of(alloc, writer) == Some(Value::I32(1)) && written
+}
+
+#[test]
+fn the_guard_of_unreachable_finds_a_trap(rt: HostRuntime) {
+    assert!(rt; unreachable_is_guarded(rt.alloc()));
 }

@@ -6,10 +6,8 @@ ghost use Rattle.wasm_format_laws.specs.calls.Sized.{Sized};
 
 use crate::modules::{DIV, valid};
 use crate::piece_tests::has_two_functions;
-use causes::NoMemory;
 use index_map::{IndexMap, export_collision, import_collision};
 use std::alloc::Global;
-use std::test::Fail;
 use wasm_decode::decode;
 use wasm_syntax::{ExportKind, ModuleParts, ValType};
 use wasm_validate::Validated;
@@ -78,32 +76,62 @@ fn has_wrappers(numbers: &IndexMap<'_>) -> bool {
         && numbers.helped().is_empty()
 }
 
-fn is_numbered(alloc: Global, source: &Validated) -> Result<bool, NoMemory>
+fn is_numbered(alloc: Global, source: &Validated) -> bool
     requires { Sized source.now }
 {
-    let numbers = IndexMap::new(alloc, source.module())?;
-    Ok(has_numbers(&numbers) && has_wrappers(&numbers))
+    match IndexMap::new(alloc, source.module()) {
+        Ok(numbers) => has_numbers(&numbers) && has_wrappers(&numbers),
+        Err(_) => false,
+    }
+}
+
+fn is_numbered_in(alloc: Global, bytes: &[u8]) -> bool {
+    match valid(alloc, bytes) {
+        Some(source) => is_numbered(alloc, &source),
+        None => false,
+    }
 }
 
 /// The wrapper of the export stands behind the two functions, and then that of the one function of
 /// the table that the module defines; where the table stays as it is, there is none.
-fn is_shown(alloc: Global, source: &Validated, doubled: bool) -> Result<bool, NoMemory>
+fn has_table(numbers: &IndexMap<'_>, doubled: bool, wrapped: &[u32], helpers: u32) -> bool {
+    numbers.doubles() == doubled
+        && numbers.table_size() == 3
+        && numbers.wrapped() == wrapped
+        && numbers.wrapper_base() == 6
+        && numbers.exports() == [0, 6].as_slice()
+        && numbers.helper_base() == helpers
+}
+
+fn is_shown(numbers: &IndexMap<'_>, doubled: bool) -> bool {
+    if doubled {
+        has_table(numbers, true, &[2, 1], 8)
+    } else {
+        has_table(numbers, false, &[2], 7)
+    }
+}
+
+fn is_shown_of(alloc: Global, source: &Validated, doubled: bool) -> bool
     requires { Sized source.now }
 {
-    let numbers = IndexMap::new(alloc, source.module())?;
-    let wrapped = if doubled {
-        [2, 1].as_slice()
-    } else {
-        [2].as_slice()
-    };
-    Ok(
-        numbers.doubles() == doubled
-            && numbers.table_size() == 3
-            && numbers.wrapped() == wrapped
-            && numbers.wrapper_base() == 6
-            && numbers.exports() == [0, 6].as_slice()
-            && numbers.helper_base() == if doubled { 8 } else { 7 },
-    )
+    match IndexMap::new(alloc, source.module()) {
+        Ok(numbers) => is_shown(&numbers, doubled),
+        Err(_) => false,
+    }
+}
+
+fn is_shown_in(alloc: Global, bytes: &[u8], doubled: bool) -> bool {
+    match valid(alloc, bytes) {
+        Some(source) => is_shown_of(alloc, &source, doubled),
+        None => false,
+    }
+}
+
+/// The elements stand one place further on, where the last one is out of the table.
+fn moved_on() -> [u8; 67] {
+    let mut bytes = SHOWN;
+    bytes[52] = 1;
+    bytes
 }
 
 /// Whether these are the first import and the first export with a name that the rewriting takes.
@@ -115,12 +143,8 @@ fn has_collisions(alloc: Global, bytes: &[u8], import: Option<u32>, export: Opti
 }
 
 #[test]
-fn functions_stand_behind_the_collector(rt: HostRuntime) -> Result<(), Fail> {
-    match valid(rt.alloc(), &NAMED) {
-        Some(v) => assert!(rt; is_numbered(rt.alloc(), &v)?),
-        None => assert!(rt; false),
-    }
-    Ok(())
+fn functions_stand_behind_the_collector(rt: HostRuntime) {
+    assert!(rt; is_numbered_in(rt.alloc(), &NAMED));
 }
 
 #[test]
@@ -130,21 +154,11 @@ fn taken_names_are_told(rt: HostRuntime) {
 }
 
 #[test]
-fn a_table_that_a_host_sees_is_doubled(rt: HostRuntime) -> Result<(), Fail> {
-    match valid(rt.alloc(), &SHOWN) {
-        Some(v) => assert!(rt; is_shown(rt.alloc(), &v, true)?),
-        None => assert!(rt; false),
-    }
-    Ok(())
+fn a_table_that_a_host_sees_is_doubled(rt: HostRuntime) {
+    assert!(rt; is_shown_in(rt.alloc(), &SHOWN, true));
 }
 
 #[test]
-fn a_table_whose_segments_do_not_fit_stays(rt: HostRuntime) -> Result<(), Fail> {
-    let mut bytes = SHOWN;
-    bytes[52] = 1;
-    match valid(rt.alloc(), &bytes) {
-        Some(v) => assert!(rt; is_shown(rt.alloc(), &v, false)?),
-        None => assert!(rt; false),
-    }
-    Ok(())
+fn a_table_whose_segments_do_not_fit_stays(rt: HostRuntime) {
+    assert!(rt; is_shown_in(rt.alloc(), &moved_on(), false));
 }

@@ -1,12 +1,12 @@
 //! Pieces of rewritten bodies, written out by hand from the definitions, for a function of an i32
 //! and an i64 that gives an i32, with four heights.
 
-ghost use Rattle.std.specs.Prelude.{◌≡◌, ◌≤◌, ◌<◌, [], length, IfOk};
+ghost use Rattle.std.specs.Prelude.{◌≡◌, ◌≤◌, ◌<◌, [], length};
 ghost use Rattle.std.specs.Bool.{OnTrue};
 ghost use Rattle.wasm_syntax.specs.Module.{function_types};
 ghost use Rattle.wasm_format_laws.specs.calls.Sized.{Sized};
 
-use crate::code_tests::is_code;
+use crate::code_tests::{is_written, places_of};
 use crate::exit_tests::around;
 use crate::modules::valid;
 use causes::NoMemory;
@@ -17,7 +17,6 @@ use rewrite_code::{
     CodeWriter, FunctionContext, Landings, Offsets, OperandPlace, OperandPlaces, drops,
 };
 use std::alloc::Global;
-use std::test::Fail;
 use unwind_rewrite::{
     Site, TypeNumbers, branch_table, call_function, call_through_table, close_block, helper,
     open_block, trap, wrapper,
@@ -260,51 +259,35 @@ const ENDS: [Instr; 64] = [
 ];
 
 // An i32, a constant and an i64.
-fn three_places(alloc: Global) -> Result<OperandPlaces, NoMemory>
-    ensures { IfOk result (λ places. length places ≡ 3) }
-{
-    let mut places = OperandPlaces::new(alloc);
-    places.push(OperandPlace::Spilled(ValType::I32))?;
-    places.push(OperandPlace::Known(Value::I64(7)))?;
-    places.push(OperandPlace::Spilled(ValType::I64))?;
-    Ok(places)
-}
+const THREE: [OperandPlace; 3] = [
+    OperandPlace::Spilled(ValType::I32),
+    OperandPlace::Known(Value::I64(7)),
+    OperandPlace::Spilled(ValType::I64),
+];
 
 // A copy of the i32, a constant, a copy of the i64, and one of the i32.
-fn copies(alloc: Global) -> Result<OperandPlaces, NoMemory>
-    ensures { IfOk result (λ places. length places ≡ 4) }
-{
-    let mut places = OperandPlaces::new(alloc);
-    places.push(OperandPlace::Copied(ValType::I32, 0))?;
-    places.push(OperandPlace::Known(Value::I64(7)))?;
-    places.push(OperandPlace::Copied(ValType::I64, 1))?;
-    places.push(OperandPlace::Copied(ValType::I32, 0))?;
-    Ok(places)
-}
+const COPIES: [OperandPlace; 4] = [
+    OperandPlace::Copied(ValType::I32, 0),
+    OperandPlace::Known(Value::I64(7)),
+    OperandPlace::Copied(ValType::I64, 1),
+    OperandPlace::Copied(ValType::I32, 0),
+];
 
 // An i32 and an i64.
-fn two_places(alloc: Global) -> Result<OperandPlaces, NoMemory>
-    ensures { IfOk result (λ places. length places ≡ 2) }
-{
-    let mut places = OperandPlaces::new(alloc);
-    places.push(OperandPlace::Spilled(ValType::I32))?;
-    places.push(OperandPlace::Spilled(ValType::I64))?;
-    Ok(places)
-}
+const TWO: [OperandPlace; 2] = [
+    OperandPlace::Spilled(ValType::I32),
+    OperandPlace::Spilled(ValType::I64),
+];
 
 // An i64, an i32, a constant and the index of an entry.
-fn four_places(alloc: Global) -> Result<OperandPlaces, NoMemory>
-    ensures { IfOk result (λ places. length places ≡ 4) }
-{
-    let mut places = OperandPlaces::new(alloc);
-    places.push(OperandPlace::Spilled(ValType::I64))?;
-    places.push(OperandPlace::Spilled(ValType::I32))?;
-    places.push(OperandPlace::Known(Value::I64(7)))?;
-    places.push(OperandPlace::Spilled(ValType::I32))?;
-    Ok(places)
-}
+const FOUR: [OperandPlace; 4] = [
+    OperandPlace::Spilled(ValType::I64),
+    OperandPlace::Spilled(ValType::I32),
+    OperandPlace::Known(Value::I64(7)),
+    OperandPlace::Spilled(ValType::I32),
+];
 
-fn moves(
+fn moves_top(
     context: &FunctionContext<'_, '_>,
     writer: &mut CodeWriter,
     places: &OperandPlaces,
@@ -314,11 +297,45 @@ fn moves(
 {
     context.load(writer, 2, places)?;
     context.store(writer, Some(ValType::I64), 2)?;
-    context.keep(writer, false, Some(OperandPlace::Spilled(ValType::I64)), 2)?;
+    context.keep(writer, false, Some(OperandPlace::Spilled(ValType::I64)), 2)
+}
+
+fn moves_back(
+    context: &FunctionContext<'_, '_>,
+    writer: &mut CodeWriter,
+    places: &OperandPlaces,
+) -> Result<(), NoMemory>
+    requires room { length places.now ≤ context.now.slots }
+    requires heights { 4 ≤ context.now.slots }
+{
     context.reload(writer, Some(ValType::I32), 1)?;
-    context.hand_top(writer, 1, places)?;
-    let division = Basic::Binary(ValType::I64, Binary::DivS);
-    guarded(context, writer, 1, places, 5, &division)
+    context.hand_top(writer, 1, places)
+}
+
+const DIVISION: Basic = Basic::Binary(ValType::I64, Binary::DivS);
+
+fn moves(
+    context: &FunctionContext<'_, '_>,
+    writer: &mut CodeWriter,
+    places: &OperandPlaces,
+) -> Result<(), NoMemory>
+    requires room { length places.now ≤ context.now.slots }
+    requires heights { 4 ≤ context.now.slots }
+{
+    moves_top(context, writer, places)?;
+    moves_back(context, writer, places)?;
+    guarded(context, writer, 1, places, 5, &DIVISION)
+}
+
+fn spills_copies(
+    context: &FunctionContext<'_, '_>,
+    writer: &mut CodeWriter,
+    copies: &OperandPlaces,
+) -> Result<(), NoMemory>
+    requires { length copies.now ≤ context.now.slots }
+{
+    context.spill(writer, Some(0), 1, copies)?;
+    context.spill(writer, None, 1, copies)
 }
 
 // What becomes of copies.
@@ -330,35 +347,39 @@ fn spills(
     requires room { length copies.now ≤ context.now.slots }
     requires heights { 4 ≤ context.now.slots }
 {
-    context.spill(writer, Some(0), 1, copies)?;
-    context.spill(writer, None, 1, copies)?;
+    spills_copies(context, writer, copies)?;
     context.fetch(writer, OperandPlace::Copied(ValType::I64, 1), 2)?;
     drops(writer, 2)
+}
+
+fn blocks(
+    context: &FunctionContext<'_, '_>,
+    writer: &mut CodeWriter,
+    copies: &OperandPlaces,
+) -> Result<(), NoMemory>
+    requires room { length copies.now ≤ context.now.slots }
+    requires heights { 4 ≤ context.now.slots }
+{
+    open_block(context, writer, Some(ValType::I64), copies)?;
+    close_block(context, writer, false, Some(ValType::I64), 3)
 }
 
 fn branches(
     context: &FunctionContext<'_, '_>,
     writer: &mut CodeWriter,
-    copies: &OperandPlaces,
+    targets: &[u32],
     places: &OperandPlaces,
 ) -> Result<(), NoMemory>
-    requires room { length places.now ≤ context.now.slots }
-    requires copies { length copies.now ≤ context.now.slots }
-    requires heights { 4 ≤ context.now.slots }
+    requires { length places.now ≤ context.now.slots }
 {
-    open_block(context, writer, Some(ValType::I64), copies)?;
-    close_block(context, writer, false, Some(ValType::I64), 3)?;
-    branch_table(writer, &[0, 1], 1)?;
-    trap(
-        context,
-        writer,
-        &Site {
-            labels: 1,
-            places,
-            offset: 3,
-            passing: false,
-        },
-    )
+    branch_table(writer, targets, 1)?;
+    let site = Site {
+        labels: 1,
+        places,
+        offset: 3,
+        passing: false,
+    };
+    trap(context, writer, &site)
 }
 
 // A call behind one that took so many operands and gave an i32.
@@ -389,15 +410,13 @@ fn call_behind(
     }
 }
 
-fn calls(
+fn call_entry(
     context: &FunctionContext<'_, '_>,
     writer: &mut CodeWriter,
-    places: &mut OperandPlaces,
+    places: &OperandPlaces,
     ftype: &FuncType,
 ) -> Result<(), NoMemory>
-    requires there { 1 < length (function_types context.now.source) }
-    requires room { length places.old ≤ context.now.slots }
-    requires heights { 4 ≤ context.now.slots }
+    requires { length places.now ≤ context.now.slots }
 {
     let numbers = TypeNumbers {
         index: 0,
@@ -409,9 +428,29 @@ fn calls(
         offset: 9,
         passing: false,
     };
-    call_through_table(context, writer, &site, numbers, ftype)?;
+    call_through_table(context, writer, &site, numbers, ftype)
+}
+
+fn calls(
+    context: &FunctionContext<'_, '_>,
+    writer: &mut CodeWriter,
+    places: &mut OperandPlaces,
+    ftype: &FuncType,
+) -> Result<(), NoMemory>
+    requires there { 1 < length (function_types context.now.source) }
+    requires room { length places.old ≤ context.now.slots }
+    requires heights { 4 ≤ context.now.slots }
+{
+    call_entry(context, writer, places, ftype)?;
     call_behind(context, writer, places, 3, 12, 1, ftype)?;
     call_behind(context, writer, places, 2, 15, 0, ftype)
+}
+
+fn wraps(map: &IndexMap<'_>, writer: &mut CodeWriter, entries: &[u32]) -> Result<(), NoMemory>
+    requires { 1 < length (function_types map.now) }
+{
+    wrapper(map, writer, map.source().globals.as_slice(), 1, 2)?;
+    helper(writer, entries)
 }
 
 fn ends(context: &FunctionContext<'_, '_>, writer: &mut CodeWriter) -> Result<(), NoMemory>
@@ -419,58 +458,94 @@ fn ends(context: &FunctionContext<'_, '_>, writer: &mut CodeWriter) -> Result<()
     requires none { context.now.landings ≡ [] }
 {
     around(context, writer)?;
-    let map = context.map();
-    wrapper(map, writer, map.source().globals.as_slice(), 1, 2)?;
-    helper(writer, &[2, 0])
+    wraps(context.map(), writer, &[2, 0])
 }
 
-fn is_written(alloc: Global, writer: CodeWriter, expected: &[Instr]) -> Result<bool, NoMemory> {
-    let body = writer.finish(Items::new(alloc))?;
-    Ok(is_code(&body, expected))
+fn has_moved(alloc: Global, context: &FunctionContext<'_, '_>, writer: &mut CodeWriter) -> bool
+    requires { 4 ≤ context.now.slots }
+{
+    match places_of(alloc, &THREE) {
+        Ok(places) => places.len() <= 4 && moves(context, writer, &places).is_ok(),
+        Err(_) => false,
+    }
 }
 
-fn writes_moves(alloc: Global, context: &FunctionContext<'_, '_>) -> Result<bool, NoMemory>
+fn has_spilled(alloc: Global, context: &FunctionContext<'_, '_>, writer: &mut CodeWriter) -> bool
+    requires { 4 ≤ context.now.slots }
+{
+    match places_of(alloc, &COPIES) {
+        Ok(copies) => copies.len() <= 4 && spills(context, writer, &copies).is_ok(),
+        Err(_) => false,
+    }
+}
+
+fn writes_moves(alloc: Global, context: &FunctionContext<'_, '_>) -> bool
     requires { 4 ≤ context.now.slots }
 {
     let mut writer = CodeWriter::new(alloc);
-    let places = three_places(alloc)?;
-    moves(context, &mut writer, &places)?;
-    let copies = copies(alloc)?;
-    spills(context, &mut writer, &copies)?;
-    is_written(alloc, writer, &MOVES)
+    let moved = has_moved(alloc, context, &mut writer);
+    let spilled = has_spilled(alloc, context, &mut writer);
+    is_written(alloc, writer, &MOVES) && moved && spilled
 }
 
-fn writes_branches(alloc: Global, context: &FunctionContext<'_, '_>) -> Result<bool, NoMemory>
+fn has_blocks(alloc: Global, context: &FunctionContext<'_, '_>, writer: &mut CodeWriter) -> bool
+    requires { 4 ≤ context.now.slots }
+{
+    match places_of(alloc, &COPIES) {
+        Ok(copies) => copies.len() <= 4 && blocks(context, writer, &copies).is_ok(),
+        Err(_) => false,
+    }
+}
+
+fn has_branched(alloc: Global, context: &FunctionContext<'_, '_>, writer: &mut CodeWriter) -> bool
+    requires { 4 ≤ context.now.slots }
+{
+    match places_of(alloc, &TWO) {
+        Ok(places) => places.len() <= 4 && branches(context, writer, &[0, 1], &places).is_ok(),
+        Err(_) => false,
+    }
+}
+
+fn writes_branches(alloc: Global, context: &FunctionContext<'_, '_>) -> bool
     requires { 4 ≤ context.now.slots }
 {
     let mut writer = CodeWriter::new(alloc);
-    let copies = copies(alloc)?;
-    let places = two_places(alloc)?;
-    branches(context, &mut writer, &copies, &places)?;
-    is_written(alloc, writer, &BRANCHES)
+    let opened = has_blocks(alloc, context, &mut writer);
+    let branched = has_branched(alloc, context, &mut writer);
+    is_written(alloc, writer, &BRANCHES) && opened && branched
 }
 
-fn writes_calls(
+fn has_called(
     alloc: Global,
     context: &FunctionContext<'_, '_>,
+    writer: &mut CodeWriter,
     ftype: &FuncType,
-) -> Result<bool, NoMemory>
+) -> bool
+    requires there { 1 < length (function_types context.now.source) }
+    requires heights { 4 ≤ context.now.slots }
+{
+    match places_of(alloc, &FOUR) {
+        Ok(mut places) => places.len() <= 4 && calls(context, writer, &mut places, ftype).is_ok(),
+        Err(_) => false,
+    }
+}
+
+fn writes_calls(alloc: Global, context: &FunctionContext<'_, '_>, ftype: &FuncType) -> bool
     requires there { 1 < length (function_types context.now.source) }
     requires heights { 4 ≤ context.now.slots }
 {
     let mut writer = CodeWriter::new(alloc);
-    let mut places = four_places(alloc)?;
-    calls(context, &mut writer, &mut places, ftype)?;
-    is_written(alloc, writer, &CALLS)
+    let called = has_called(alloc, context, &mut writer, ftype);
+    is_written(alloc, writer, &CALLS) && called
 }
 
-fn writes_ends(alloc: Global, context: &FunctionContext<'_, '_>) -> Result<bool, NoMemory>
+fn writes_ends(alloc: Global, context: &FunctionContext<'_, '_>) -> bool
     requires there { 1 < length (function_types context.now.source) }
     requires none { context.now.landings ≡ [] }
 {
     let mut writer = CodeWriter::new(alloc);
-    ends(context, &mut writer)?;
-    is_written(alloc, writer, &ENDS)
+    let ended = ends(context, &mut writer).is_ok();
+    is_written(alloc, writer, &ENDS) && ended
 }
 
 /// Whether there are an import and a function.
@@ -483,30 +558,30 @@ pub fn has_two_functions(parts: &ModuleParts) -> bool
     true
 }
 
-fn writes_all(alloc: Global, context: &FunctionContext<'_, '_>) -> Result<bool, NoMemory>
+fn writes_functions(alloc: Global, context: &FunctionContext<'_, '_>, parts: &ModuleParts) -> bool
+    requires heights { 4 ≤ context.now.slots }
+    requires none { context.now.landings ≡ [] }
+    requires same { parts.now ≡ context.now.source }
+{
+    let Some(ftype) = parts.types.get(0) else {
+        return false;
+    };
+    if !has_two_functions(parts) {
+        return false;
+    }
+    writes_ends(alloc, context) && writes_calls(alloc, context, ftype)
+}
+
+fn writes_all(alloc: Global, context: &FunctionContext<'_, '_>) -> bool
     requires heights { 4 ≤ context.now.slots }
     requires none { context.now.landings ≡ [] }
 {
-    let parts = context.map().source();
-    let Some(ftype) = parts.types.get(0) else {
-        return Ok(false);
-    };
-    if !has_two_functions(parts) {
-        return Ok(false);
-    }
-    let moves = writes_moves(alloc, context)?;
-    let branches = writes_branches(alloc, context)?;
-    let ends = writes_ends(alloc, context)?;
-    let calls = writes_calls(alloc, context, ftype)?;
-    Ok(moves && branches && ends && calls)
+    writes_moves(alloc, context)
+        && writes_branches(alloc, context)
+        && writes_functions(alloc, context, context.map().source())
 }
 
-fn two_locals(alloc: Global) -> Result<Items<ValType>, NoMemory>
-    ensures { IfOk result (λ types. length types ≡ 2) }
-{
-    let types = Items::from_slice(alloc, &[ValType::I32, ValType::I64])?;
-    Ok(types)
-}
+const LOCALS: [ValType; 2] = [ValType::I32, ValType::I64];
 
 // The division needs its guard.
 fn five(alloc: Global) -> Result<Offsets, NoMemory> {
@@ -515,31 +590,53 @@ fn five(alloc: Global) -> Result<Offsets, NoMemory> {
     Ok(offsets)
 }
 
-fn writes_pieces(alloc: Global, source: &Validated) -> Result<bool, NoMemory>
+fn writes_with(
+    alloc: Global,
+    map: &IndexMap<'_>,
+    locals: Items<ValType>,
+    guarded: Offsets,
+) -> bool {
+    if locals.len() > 2 {
+        return false;
+    }
+    let landings = Landings::new(alloc);
+    let gives = Some(ValType::I32);
+    let derived = Items::new(alloc);
+    let context = FunctionContext::new(map, locals, 4, 1, gives, landings, guarded, derived);
+    writes_all(alloc, &context)
+}
+
+fn writes_behind(alloc: Global, map: &IndexMap<'_>, guarded: Offsets) -> bool {
+    match Items::from_slice(alloc, &LOCALS) {
+        Ok(locals) => writes_with(alloc, map, locals, guarded),
+        Err(_) => false,
+    }
+}
+
+fn writes_by(alloc: Global, map: &IndexMap<'_>) -> bool {
+    match five(alloc) {
+        Ok(guarded) => writes_behind(alloc, map, guarded),
+        Err(_) => false,
+    }
+}
+
+fn writes_pieces(alloc: Global, source: &Validated) -> bool
     requires { Sized source.now }
 {
-    let locals = two_locals(alloc)?;
-    let guarded = five(alloc)?;
-    let map = IndexMap::new(alloc, source.module())?;
-    let context = FunctionContext::new(
-        &map,
-        locals,
-        4,
-        1,
-        Some(ValType::I32),
-        Landings::new(alloc),
-        guarded,
-        Items::new(alloc),
-    );
-    let same = writes_all(alloc, &context)?;
-    Ok(same)
+    match IndexMap::new(alloc, source.module()) {
+        Ok(map) => writes_by(alloc, &map),
+        Err(_) => false,
+    }
+}
+
+fn writes_pieces_of(alloc: Global, bytes: &[u8]) -> bool {
+    match valid(alloc, bytes) {
+        Some(source) => writes_pieces(alloc, &source),
+        None => false,
+    }
 }
 
 #[test]
-fn pieces_are_written(rt: HostRuntime) -> Result<(), Fail> {
-    match valid(rt.alloc(), &MODULE) {
-        Some(v) => assert!(rt; writes_pieces(rt.alloc(), &v)?),
-        None => assert!(rt; false),
-    }
-    Ok(())
+fn pieces_are_written(rt: HostRuntime) {
+    assert!(rt; writes_pieces_of(rt.alloc(), &MODULE));
 }

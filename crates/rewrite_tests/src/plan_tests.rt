@@ -4,7 +4,6 @@ use crate::modules::{DIV, valid};
 use causes::NoMemory;
 use operand_spill::{SlotPlan, plan};
 use std::alloc::Global;
-use std::test::Fail;
 use wasm_syntax::{ValType, Value};
 use wasm_validate::Validated;
 
@@ -39,13 +38,6 @@ fn first_plan(alloc: Global, source: &Validated) -> Result<Option<SlotPlan>, NoM
     }
 }
 
-fn planned(alloc: Global, bytes: &[u8]) -> Result<Option<SlotPlan>, NoMemory> {
-    match valid(alloc, bytes) {
-        Some(source) => first_plan(alloc, &source),
-        None => Ok(None),
-    }
-}
-
 /// How many locals are added, those of the results, those of a kind and an offset, and that of the
 /// length of the memory.
 fn has_numbers(plan: &SlotPlan, expected: [u32; 6]) -> bool {
@@ -67,48 +59,67 @@ fn has_slots(plan: &SlotPlan) -> bool {
     plan.slot(ValType::I32, 0) == 2 && plan.slot(ValType::I64, 1) == 8
 }
 
-/// Whether the constants that are known in the first function are these.
-fn knows(alloc: Global, source: &Validated, plan: &SlotPlan) -> Result<bool, NoMemory> {
-    for (op, lowest, second) in KNOWN.iter() {
-        match source.op_at(0, 1) {
-            Some(_op) => {
-                let at_bottom = plan.known(alloc, source, 0, *op, 0)?;
-                let above = plan.known(alloc, source, 0, *op, 1)?;
-                if at_bottom != *lowest || above != *second {
-                    return Ok(false);
-                }
-            }
-            None => return Ok(false),
-        }
+fn is_known(
+    alloc: Global,
+    source: &Validated,
+    plan: &SlotPlan,
+    place: (u32, u32),
+    value: Option<Value>,
+) -> bool {
+    match source.op_at(0, 1) {
+        Some(_op) => match plan.known(alloc, source, 0, place.0, place.1) {
+            Ok(found) => found == value,
+            Err(_) => false,
+        },
+        None => false,
     }
-    Ok(true)
+}
+
+/// Whether the constants that are known in the first function are these.
+fn knows(alloc: Global, source: &Validated, plan: &SlotPlan) -> bool {
+    KNOWN.iter().all(|(op, lowest, second)| {
+        is_known(alloc, source, plan, (*op, 0), *lowest)
+            && is_known(alloc, source, plan, (*op, 1), *second)
+    })
 }
 
 /// Whether the nested blocks have their added locals and constants.
-fn nested_is_planned(alloc: Global) -> Result<bool, NoMemory> {
-    let Some(source) = valid(alloc, &NESTED) else {
-        return Ok(false);
-    };
-    match first_plan(alloc, &source)? {
-        Some(plan) => {
-            let known = knows(alloc, &source, &plan)?;
-            Ok(known && has_numbers(&plan, [13, 4, 11, 5, 6, 12]))
+fn nested_is_planned(alloc: Global, source: &Validated) -> bool {
+    match first_plan(alloc, source) {
+        Ok(Some(plan)) => {
+            knows(alloc, source, &plan) && has_numbers(&plan, [13, 4, 11, 5, 6, 12])
         }
-        None => Ok(false),
+        _ => false,
+    }
+}
+
+fn nested_is_planned_in(alloc: Global, bytes: &[u8]) -> bool {
+    match valid(alloc, bytes) {
+        Some(source) => nested_is_planned(alloc, &source),
+        None => false,
+    }
+}
+
+fn division_is_planned(alloc: Global, source: &Validated) -> bool {
+    match first_plan(alloc, source) {
+        Ok(Some(plan)) => has_numbers(&plan, [9, 4, 9, 5, 6, 10]) && has_slots(&plan),
+        _ => false,
+    }
+}
+
+fn division_is_planned_in(alloc: Global, bytes: &[u8]) -> bool {
+    match valid(alloc, bytes) {
+        Some(source) => division_is_planned(alloc, &source),
+        None => false,
     }
 }
 
 #[test]
-fn added_locals_stand_behind_the_own(rt: HostRuntime) -> Result<(), Fail> {
-    match planned(rt.alloc(), &DIV)? {
-        Some(plan) => assert!(rt; has_numbers(&plan, [9, 4, 9, 5, 6, 10]) && has_slots(&plan)),
-        None => assert!(rt; false),
-    }
-    Ok(())
+fn added_locals_stand_behind_the_own(rt: HostRuntime) {
+    assert!(rt; division_is_planned_in(rt.alloc(), &DIV));
 }
 
 #[test]
-fn constants_are_known_until_they_are_taken(rt: HostRuntime) -> Result<(), Fail> {
-    assert!(rt; nested_is_planned(rt.alloc())?);
-    Ok(())
+fn constants_are_known_until_they_are_taken(rt: HostRuntime) {
+    assert!(rt; nested_is_planned_in(rt.alloc(), &NESTED));
 }

@@ -23,55 +23,102 @@ fn push_constant(walk: &mut Walk, value: Value) -> Result<(), NoMemory> {
     walk.perform_basic(Basic::Const(value), 0, Some(OperandPlace::Known(value)))
 }
 
-// An `if` over a constant and an i64, both of which its first arm takes.
-fn first_arm(walk: &mut Walk) -> Result<bool, NoMemory> {
+// A constant, an i64, and a constant that the `if` takes.
+fn push_three(walk: &mut Walk) -> Result<(), NoMemory> {
     push_constant(walk, Value::I32(1))?;
     walk.perform(0, Some(ValType::I64))?;
-    push_constant(walk, Value::I64(5))?;
+    push_constant(walk, Value::I64(5))
+}
+
+fn take_condition(walk: &mut Walk) -> bool {
     let before = are(walk.places(), &[ONE, WIDE, FIVE]);
-    let condition = walk.pop() == Some(FIVE);
+    before && walk.pop() == Some(FIVE)
+}
+
+// The first arm takes both others.
+fn take_two(walk: &mut Walk) -> Result<bool, NoMemory> {
     walk.open(Label::Block(Some(ValType::I32)))?;
     let inside = are(walk.places(), &[ONE, WIDE]) && walk.below() == 2;
     walk.perform(2, None)?;
-    Ok(before && condition && inside && are(walk.places(), &[]))
+    Ok(inside && are(walk.places(), &[]))
+}
+
+// An `if` over a constant and an i64, both of which its first arm takes.
+fn first_arm(walk: &mut Walk) -> Result<bool, NoMemory> {
+    push_three(walk)?;
+    let condition = take_condition(walk);
+    let inside = take_two(walk)?;
+    Ok(condition && inside)
+}
+
+// The second arm takes one.
+fn second_arm(walk: &mut Walk) -> Result<bool, NoMemory> {
+    walk.alternate()?;
+    let before = are(walk.places(), &[ONE, WIDE]);
+    walk.perform(1, Some(ValType::I32))?;
+    Ok(before && are(walk.places(), &[ONE, NARROW]))
 }
 
 fn both_arms(walk: &mut Walk) -> Result<bool, NoMemory> {
     let first = first_arm(walk)?;
-    walk.alternate()?;
-    let second = are(walk.places(), &[ONE, WIDE]);
-    walk.perform(1, Some(ValType::I32))?;
-    let taken = are(walk.places(), &[ONE, NARROW]);
+    let second = second_arm(walk)?;
     walk.close()?;
-    Ok(first && second && taken && are(walk.places(), &[ONE, WIDE, NARROW]))
+    Ok(first && second && are(walk.places(), &[ONE, WIDE, NARROW]))
 }
 
-// A copy of each of two locals; one is written, and then a block begins.
-fn copies(alloc: Global) -> Result<bool, NoMemory> {
-    let one = OperandPlace::Copied(ValType::I32, 1);
-    let two = OperandPlace::Copied(ValType::I64, 2);
-    let mut walk = Walk::new(alloc, None);
-    walk.perform_basic(Basic::LocalGet(1), 0, Some(one))?;
-    walk.perform_basic(Basic::LocalGet(2), 0, Some(two))?;
-    let both = are(walk.places(), &[one, two]);
+fn arms(alloc: Global) -> Result<bool, NoMemory> {
+    let mut walk = Walk::new(alloc, Some(ValType::I32));
+    both_arms(&mut walk)
+}
+
+const NARROW_COPY: OperandPlace = OperandPlace::Copied(ValType::I32, 1);
+
+const WIDE_COPY: OperandPlace = OperandPlace::Copied(ValType::I64, 2);
+
+fn push_copies(walk: &mut Walk) -> Result<bool, NoMemory> {
+    walk.perform_basic(Basic::LocalGet(1), 0, Some(NARROW_COPY))?;
+    walk.perform_basic(Basic::LocalGet(2), 0, Some(WIDE_COPY))?;
+    Ok(are(walk.places(), &[NARROW_COPY, WIDE_COPY]))
+}
+
+fn write_one(walk: &mut Walk) -> Result<bool, NoMemory> {
     walk.perform(0, Some(ValType::I32))?;
     walk.perform_basic(Basic::LocalSet(1), 1, None)?;
-    let written = are(walk.places(), &[NARROW, two]);
+    Ok(are(walk.places(), &[NARROW, WIDE_COPY]))
+}
+
+fn copies_end(walk: &mut Walk) -> Result<bool, NoMemory> {
+    let both = push_copies(walk)?;
+    let written = write_one(walk)?;
     walk.open(Label::Loop(None))?;
     Ok(both && written && are(walk.places(), &[NARROW, WIDE]))
 }
 
-fn labels(alloc: Global) -> Result<bool, NoMemory> {
-    let body = Label::Body(Some(ValType::I32));
-    let inner = Label::Loop(Some(ValType::I64));
-    let mut walk = Walk::new(alloc, Some(ValType::I32));
-    let alone = walk.innermost() == body && walk.depth() == 1;
-    walk.open(inner)?;
-    let two = walk.innermost() == inner && walk.depth() == 2;
-    let given = inner.end_gives() == Some(ValType::I64);
+// A copy of each of two locals; one is written, and then a block begins.
+fn copies(alloc: Global) -> Result<bool, NoMemory> {
+    let mut walk = Walk::new(alloc, None);
+    copies_end(&mut walk)
+}
+
+fn is_at(walk: &Walk, label: Label, depth: usize) -> bool {
+    walk.innermost() == label && walk.depth() == depth
+}
+
+const BODY: Label = Label::Body(Some(ValType::I32));
+
+const INNER: Label = Label::Loop(Some(ValType::I64));
+
+fn labels_in(walk: &mut Walk) -> Result<bool, NoMemory> {
+    let alone = is_at(walk, BODY, 1);
+    walk.open(INNER)?;
+    let two = is_at(walk, INNER, 2);
     walk.close()?;
-    let left = walk.innermost() == body && walk.depth() == 1;
-    Ok(alone && two && given && left && are(walk.places(), &[WIDE]))
+    Ok(alone && two && is_at(walk, BODY, 1) && are(walk.places(), &[WIDE]))
+}
+
+fn labels(alloc: Global) -> Result<bool, NoMemory> {
+    let mut walk = Walk::new(alloc, Some(ValType::I32));
+    labels_in(&mut walk)
 }
 
 #[test]
@@ -82,9 +129,9 @@ fn copies_end_where_their_local_is_written(rt: HostRuntime) -> Result<(), Fail> 
 
 #[test]
 fn places_and_labels_come_back(rt: HostRuntime) -> Result<(), Fail> {
-    let mut walk = Walk::new(rt.alloc(), Some(ValType::I32));
-    let places = both_arms(&mut walk)?;
-    assert!(rt; places && labels(rt.alloc())?);
+    let places = arms(rt.alloc())?;
+    let labels = labels(rt.alloc())?;
+    assert!(rt; places && labels && INNER.end_gives() == Some(ValType::I64));
     Ok(())
 }
 

@@ -43,28 +43,30 @@ fn weighs(
     Ok(found == expected && excess.is_none())
 }
 
+fn weighs_in(alloc: Global, bytes: &[u8], heights: &Heights, expected: u64) -> bool
+    requires { (i op : ℕ) → height_at heights.now i op ≤ greatest Height }
+{
+    match valid(alloc, bytes) {
+        Some(source) => weighs(alloc, &source, heights, expected) == Ok(true),
+        None => false,
+    }
+}
+
 /// 512 for the module, 208, 224, 232 and 216 for its instructions, 224 for the function, 160 for
 /// the export, and 8 for each of 41 bytes.
 fn division_weighs(alloc: Global) -> Result<bool, NoMemory> {
     let heights = heights(alloc)?;
-    match valid(alloc, &DIV) {
-        Some(v) => weighs(alloc, &v, &heights, 2104),
-        None => Ok(false),
-    }
+    Ok(weighs_in(alloc, &DIV, &heights, 2104))
 }
 
-fn nothing_weighs(alloc: Global) -> Result<bool, NoMemory> {
+fn nothing_weighs(alloc: Global) -> bool {
     let heights = Items::new(alloc);
-    match valid(alloc, &EMPTY) {
-        Some(v) => weighs(alloc, &v, &heights, 576),
-        None => Ok(false),
-    }
+    weighs_in(alloc, &EMPTY, &heights, 576)
 }
 
 #[test]
 fn weights_are_sums_of_parts(rt: HostRuntime) -> Result<(), Fail> {
     let division = division_weighs(rt.alloc())?;
-    let nothing = nothing_weighs(rt.alloc())?;
-    assert!(rt; division && nothing);
+    assert!(rt; division && nothing_weighs(rt.alloc()));
     Ok(())
 }

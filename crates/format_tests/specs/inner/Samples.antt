@@ -7,6 +7,8 @@ use Rattle.wasm_syntax.specs.declared.instruction.Instr.{Instr}
 use Rattle.wasm_syntax.specs.declared.instruction.Instr.TheVariants as instr
 use Rattle.wasm_syntax.specs.declared.instruction.Op.{Op}
 use Rattle.wasm_syntax.specs.declared.parts.Body.{Body}
+use Rattle.wasm_syntax.specs.declared.parts.Export.{Export}
+use Rattle.wasm_syntax.specs.declared.parts.FuncType.{FuncType}
 use Rattle.wasm_syntax.specs.declared.parts.ExportKind.TheVariants as kinds
 use Rattle.wasm_syntax.specs.declared.module.ModuleParts.{ModuleParts}
 
@@ -23,16 +25,24 @@ divides = record {
   start = 0;
 }
 
+-- two parameters and a result
+abbrev pub narrow : FuncType
+narrow = record { params = I32 ∷ I32 ∷ []; results = I32 ∷ [] }
+
+-- the first function under a name
+abbrev pub exported : Export
+exported = record { name = codes "div"; kind = kinds.Function; index = 0 }
+
 -- a function that divides
 abbrev pub division : ModuleParts
 division = record {
-  types = record { params = I32 ∷ I32 ∷ []; results = I32 ∷ [] } ∷ [];
+  types = narrow ∷ [];
   imports = [];
   functions = 0 ∷ [];
   tables = [];
   memories = [];
   globals = [];
-  exports = record { name = codes "div"; kind = kinds.Function; index = 0 } ∷ [];
+  exports = exported ∷ [];
   start = None;
   elements = [];
   segments = [];
