@@ -314,15 +314,31 @@ def print_commands(size):
     return debugged(entries.done(), *["print w"] * (size // 80))
 
 
+def found_commands(size):
+    """Commands that print the first and the last of many variables in turn."""
+    n = size // 20
+    entries = Entries()
+    base = entries.base()
+    entries.function()
+    for i in range(n):
+        entries.variable(base, b"v%d" % i)
+    return debugged(entries.done(), *["print v0", f"print v{n - 1}"] * (size // 160))
+
+
 # ---- frames
 
-def frames_of_scopes(size, kind="bounded block"):
+def frames_of_scopes(size, kind="bounded block", bounds=lambda number: NONE):
     """Frames at addresses of their own in a subprogram with many entries of this kind, which hold none of them."""
     calls = size // 66
     entries = Entries()
     entries.function()
-    entries.bytes += (CODES[kind] + NONE) * ((size - 10 * calls) // 9)
+    entries.bytes += b"".join(CODES[kind] + bounds(number) for number in range((size - 10 * calls) // 9))
     return debugged(entries.done(), "bt", **many_calls(calls))
+
+
+def far_bounds(number):
+    """The bounds of an entry that stand apart from those of all others."""
+    return struct.pack("<II", 0x40000000 + 4 * number, 2)
 
 
 def frames_of_lines(size, code):
@@ -452,8 +468,10 @@ SHAPES = [
     ("commands `frame` over many subprograms", frame_commands),
     ("commands `vars` over many subprograms", variable_commands),
     ("commands `print` over many variables", print_commands),
+    ("commands `print` of the first and the last variable", found_commands),
     ("frames over many blocks", frames_of_scopes),
     ("frames over many inlined subroutines", lambda size: frames_of_scopes(size, "bounded inlined")),
+    ("frames over inlined subroutines that stand apart", lambda size: frames_of_scopes(size, "bounded inlined", far_bounds)),
     ("frames over subprograms with lists", frames_of_lists),
     ("frames over overlapping sequences", lambda size: frames_of_lines(size, overlapping_sequences)),
     ("frames over rows that do not ascend", lambda size: frames_of_lines(size, falling_rows)),
