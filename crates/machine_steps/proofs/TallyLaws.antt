@@ -1,5 +1,5 @@
 -- One more step in the counts.
-use Rattle.std.proofs.Common.{◌≡◌, ℕ, zero, suc, ◌+◌, ◌-◌, ◌^◌, ◌<◌, ◌≤◌, Bool, true, false, cond, List, [], ◌∷◌, ◌++◌, length, map, replicate, drop, length-append, Option, Some, None, refl, sym, ap, subst, ◌∙◌, arith}
+use Rattle.std.proofs.Common.{append_assoc, lt-ltb, ◌≡◌, ℕ, zero, suc, ◌+◌, ◌-◌, ◌^◌, ◌<◌, ◌≤◌, Bool, true, false, cond, List, [], ◌∷◌, ◌++◌, length, map, replicate, drop, length-append, Option, Some, None, refl, sym, ap, subst, ◌∙◌, arith}
 use Rattle.std.specs.Prelude.{count_by, min, nat_lt, slice_get, slice_index_or, slice_set, option_map}
 use Rattle.std.proofs.Math.Nat.{min-eq_left}
 use Rattle.std.proofs.lemmas.List.{append-nil}
@@ -10,7 +10,8 @@ use Rattle.wasm_syntax.specs.declared.module.ModuleParts.{ModuleParts as Module}
 use Rattle.wasm_syntax.specs.Module.{option_then}
 use Rattle.machine_steps.specs.Places.{Place, flat_place}
 use Rattle.machine_steps.specs.calls.Tallies.{Counts, Fits, body_sum, bodies_sum, sum_where, Counted}
-use Rattle.machine_steps.specs.inner.Cells.{more, cells_more, counts_more, no_cells}
+use Rattle.machine_steps.specs.inner.Cells.{more, cells_more, cells_run, counts_more, counts_run, no_cells}
+use Rattle.machine_steps.specs.calls.Watches.{places_from}
 
 -- ---- counts of a list
 
@@ -60,6 +61,43 @@ pub counts_past : {V : Type 0} (view : V → List ℕ) (vs : List V) (f i : ℕ)
 counts_past view [] f i past = refl
 counts_past view (v ∷ vs) zero i past = absurd (omega (arith, past))
 counts_past view (v ∷ vs) (suc f) i past = ap (λ l. view v ∷ l) (counts_past view vs f i (omega (arith, past)))
+
+-- ---- a run of cells
+
+pub run_length : (ns : List ℕ) (i n : ℕ) → length (cells_run ns i n) ≡ length ns
+run_length ns i zero = refl
+run_length ns i (suc n) = cells_length (cells_run ns i n) (i + n) ∙ run_length ns i n
+
+first_run : (c : List ℕ) (cs : List (List ℕ)) (i n : ℕ) → counts_run (c ∷ cs) zero i n ≡ cells_run c i n ∷ cs
+first_run c cs i zero = refl
+first_run c cs i (suc n) = ap (λ l. counts_more l zero (i + n)) (first_run c cs i n)
+
+later_run : (c : List ℕ) (cs : List (List ℕ)) (f i n : ℕ) → counts_run (c ∷ cs) (suc f) i n ≡ c ∷ counts_run cs f i n
+later_run c cs f i zero = refl
+later_run c cs f i (suc n) = ap (λ l. counts_more l (suc f) (i + n)) (later_run c cs f i n)
+
+no_run : (f i n : ℕ) → counts_run [] f i n ≡ []
+no_run f i zero = refl
+no_run f i (suc n) = ap (λ l. counts_more l f (i + n)) (no_run f i n)
+
+pub counts_run_set : {V : Type 0} (view : V → List ℕ) (vs : List V) (f i n : ℕ) (x y : V) → x ≡ slice_index_or vs f x → view y ≡ cells_run (view x) i n → map view (slice_set vs f y) ≡ counts_run (map view vs) f i n
+counts_run_set view [] zero i n x y there e = sym (no_run zero i n)
+counts_run_set view [] (suc f) i n x y there e = sym (no_run (suc f) i n)
+counts_run_set view (v ∷ vs) zero i n x y there e = ap (λ c. c ∷ map view vs) (e ∙ ap (λ u. cells_run (view u) i n) there) ∙ sym (first_run (view v) (map view vs) i n)
+counts_run_set view (v ∷ vs) (suc f) i n x y there e = ap (λ l. view v ∷ l) (counts_run_set view vs f i n x y there e) ∙ sym (later_run (view v) (map view vs) f i n)
+
+pub counts_run_past : {V : Type 0} (view : V → List ℕ) (vs : List V) (f i n : ℕ) → length vs ≤ f → counts_run (map view vs) f i n ≡ map view vs
+counts_run_past view vs f i zero past = refl
+counts_run_past view vs f i (suc n) past = ap (λ l. counts_more l f (i + n)) (counts_run_past view vs f i n past) ∙ counts_past view vs f (i + n) past
+
+same_lengths : (cs : List (List ℕ)) (f i : ℕ) → length (slice_index_or (counts_more cs f i) f []) ≡ length (slice_index_or cs f [])
+same_lengths [] f i = refl
+same_lengths (c ∷ cs) zero i = cells_length c i
+same_lengths (c ∷ cs) (suc f) i = same_lengths cs f i
+
+run_lengths : (cs : List (List ℕ)) (f i n : ℕ) → length (slice_index_or (counts_run cs f i n) f []) ≡ length (slice_index_or cs f [])
+run_lengths cs f i zero = refl
+run_lengths cs f i (suc n) = same_lengths (counts_run cs f i n) f (i + n) ∙ run_lengths cs f i n
 
 one_more : (b : Bool) (n rest : ℕ) → n + 1 < 2 ^ 64 → cond b (more n) 0 + rest ≡ cond b n 0 + rest + one_if b
 one_more true n rest lt = omega (arith, more_is n lt)
@@ -186,6 +224,21 @@ module _ (m : Module) (t : Counts) (seen : List (Option Place)) (h : Counted m t
 
   pub counted_none : Counted m (record { cells = t.cells; elsewhere = more t.elsewhere }) (seen ++ None ∷ [])
   counted_none = counted_more None refl
+
+-- ---- as many steps more, at the instructions of a function from one on
+
+pub counted_run : (m : Module) (t : Counts) (seen : List (Option Place)) → Counted m t seen → (f i n : ℕ) → i + n ≤ length (slice_index_or t.cells f []) → Counted m (record { cells = counts_run t.cells f i n; elsewhere = t.elsewhere }) (seen ++ places_from m f i n)
+counted_run m t seen h f i zero le = subst (Counted m t) (sym (append-nil seen)) h
+counted_run m t seen h f i (suc n) le =
+    let before = counted_run m t seen h f i n (omega (arith, le)) in
+    let same = run_lengths t.cells f i n in
+    let lt : i + n < length (slice_index_or (counts_run t.cells f i n) f []) = omega (arith, le, same) in
+    subst (Counted m (record { cells = counts_run t.cells f i (suc n); elsewhere = t.elsewhere })) (append_assoc seen (places_from m f i n) (flat_place m f (i + n) ∷ []))
+    (counted_in m (record { cells = counts_run t.cells f i n; elsewhere = t.elsewhere }) (seen ++ places_from m f i n) before f (i + n) (lt-ltb (i + n) (length (slice_index_or (counts_run t.cells f i n) f [])) lt))
+
+pub counted_next : (m : Module) (t u : Counts) (seen : List (Option Place)) (f i n j : ℕ) → j ≡ i + n → (Counted m t (seen ++ places_from m f i n) → Counted m u ((seen ++ places_from m f i n) ++ flat_place m f j ∷ []))
+    → Counted m t (seen ++ places_from m f i n) → Counted m u (seen ++ places_from m f i (suc n))
+counted_next m t u seen f i n j e step h = subst (Counted m u) (append_assoc seen (places_from m f i n) (flat_place m f (i + n) ∷ [])) (subst (λ k. Counted m u ((seen ++ places_from m f i n) ++ flat_place m f k ∷ [])) e (step h))
 
 -- ---- no step yet
 

@@ -53,7 +53,7 @@ fn part(ops: &[Op], start: usize, left: u64) -> &[Op]
 /// Steps of instructions behind which the next one is run, up to another instruction, which is
 /// given, and which the machine stands at then. Where it gives none, the steps came to what is told.
 // The fuel and the end of the code are one test, and the position is worked out where the loop is
-// left, so that no register holds it.
+// left, so that no register holds it. What watches is told of the steps there, too.
 #[inline(always)]
 fn straight<'o, W: Watch>(
     m: &mut Machine,
@@ -87,21 +87,20 @@ fn straight<'o, W: Watch>(
     let count = rest.len();
     while let Some(op) = rest.first() {
         match &op.code {
-            Instr::Basic(instruction) => {
-                watch.see(standing(innermost.frame, start + (count - rest.len())));
-                match basic(m, innermost.frame, instruction, told) {
-                    Turn::Straight => {}
-                    Turn::Came => {
-                        let made = count - rest.len();
-                        m.stack.position = start + made;
-                        *left -= made as u64;
-                        *left -= 1;
-                        return None;
-                    }
+            Instr::Basic(instruction) => match basic(m, innermost.frame, instruction, told) {
+                Turn::Straight => {}
+                Turn::Came => {
+                    let made = count - rest.len();
+                    watch.see_run(innermost.frame.function, start, made + 1);
+                    m.stack.position = start + made;
+                    *left -= made as u64;
+                    *left -= 1;
+                    return None;
                 }
-            }
+            },
             _ => {
                 let made = count - rest.len();
+                watch.see_run(innermost.frame.function, start, made);
                 m.stack.position = start + made;
                 *left -= made as u64;
                 return Some(op);
@@ -110,6 +109,7 @@ fn straight<'o, W: Watch>(
         // Written here and not above, so that what an instruction came to is not tested again.
         rest = &rest[1..];
     }
+    watch.see_run(innermost.frame.function, start, count);
     m.stack.position = start + count;
     *left -= count as u64;
     if *left == 0 {

@@ -1,11 +1,12 @@
 //! Counts of the steps of a run, by the instructions at which they are made.
 
-ghost use Rattle.std.specs.Prelude.{◌≡◌, ◌++◌, ◌∷◌, List, Option, [], length, replicate, map, slice_index_or, nat_lt};
+ghost use Rattle.std.specs.Prelude.{◌≡◌, ◌-◌, ◌≤◌, ◌++◌, ◌∷◌, List, Option, [], length, replicate, map, slice_index_or, nat_lt, true};
 ghost use Rattle.std.specs.Prelude.{IfOk, OnOk};
 ghost use Rattle.wasm_syntax.specs.declared.module.ModuleParts.{ModuleParts as Module};
 ghost use Rattle.machine_steps.specs.Places.{Place, flat_place};
 ghost use Rattle.machine_steps.specs.calls.Tallies.{Counted};
-ghost use Rattle.machine_steps.specs.inner.Cells.{more, cells_more, counts_more};
+ghost use Rattle.machine_steps.specs.calls.Watches.{places_from};
+ghost use Rattle.machine_steps.specs.inner.Cells.{more, cells_more, cells_run, counts_more, counts_run};
 
 use crate::watch::{Position, Watch};
 use causes::NoMemory;
@@ -41,6 +42,18 @@ fn count_in(cells: &mut [u64], index: usize)
 {
     if index < cells.len() {
         cells[index] = cells[index].saturating_add(1);
+    }
+}
+
+/// One more in each cell from one on, up to another one.
+#[inline(always)]
+fn count_from(cells: &mut [u64], start: usize, end: usize)
+    ensures { cells.new ≡ cells_run cells.old start (end - start) }
+{
+    let mut index = start;
+    while index < end {
+        count_in(cells, index);
+        index += 1;
     }
 }
 
@@ -138,6 +151,42 @@ impl Tally {
             self.count_elsewhere();
         }
     }
+
+    /// Whether there are so many counts of a function.
+    #[inline(always)]
+    fn reaches(&self, function: usize, end: usize) -> bool
+        ensures { result ≡ true → end ≤ length (slice_index_or self.now.cells function []) }
+    {
+        end <= self.of_function(function).len()
+    }
+
+    /// One more at each instruction of a function from one on, up to another one, where there are
+    /// such instructions.
+    #[inline(always)]
+    fn count_cells(&mut self, function: usize, start: usize, end: usize)
+        ensures { self.new ≡ record {
+          cells = counts_run self.old.cells function start (end - start);
+          elsewhere = self.old.elsewhere;
+        } }
+    {
+        match self.cells.get_mut(function) {
+            Some(cells) => count_from(cells.as_mut_slice(), start, end),
+            None => {}
+        }
+    }
+
+    /// The same, with those at none where there are no such instructions.
+    #[inline(never)]
+    fn count_each(&mut self, function: usize, start: usize, end: usize)
+        ensures { (m : Module) (seen : List (Option Place)) → Counted m self.old seen
+            → Counted m self.new (seen ++ places_from m function start (end - start)) }
+    {
+        let mut index = start;
+        while index < end {
+            self.count(Position { function, index });
+            index += 1;
+        }
+    }
 }
 
 impl Watch for Tally {
@@ -148,6 +197,18 @@ impl Watch for Tally {
         match at {
             Some(position) => self.count(position),
             None => self.count_elsewhere(),
+        }
+    }
+
+    // One test serves all steps of a run, which are at instructions but for what no run of a module
+    // tells.
+    #[inline(always)]
+    fn see_run(&mut self, function: usize, start: usize, count: usize) {
+        let end = start + count;
+        if self.reaches(function, end) {
+            self.count_cells(function, start, end);
+        } else {
+            self.count_each(function, start, end);
         }
     }
 }

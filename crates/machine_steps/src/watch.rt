@@ -1,10 +1,10 @@
-//! Who watches a run: told before each step where the machine stands.
+//! Who watches a run: told where each step is made.
 
-ghost use Rattle.std.specs.Prelude.{◌≡◌, ◌++◌, ◌∷◌, [], List, Option, Some, slice_get};
+ghost use Rattle.std.specs.Prelude.{◌≡◌, ◌+◌, ◌<◌, ◌^◌, ◌++◌, ◌∷◌, [], List, Option, Some, slice_get};
 ghost use Rattle.wasm_syntax.specs.declared.module.ModuleParts.{ModuleParts as Module};
 ghost use Rattle.machine_steps.specs.declared.machine.Machine.{Machine as Kept};
 ghost use Rattle.machine_steps.specs.Places.{Place};
-ghost use Rattle.machine_steps.specs.calls.Watches.{place_at};
+ghost use Rattle.machine_steps.specs.calls.Watches.{place_at, places_from};
 ghost use Rattle.machine_steps.specs.calls.Watched.{position_of};
 
 use crate::layout::CallFrame;
@@ -26,6 +26,14 @@ pub trait Watch {
     fn see(&mut self, at: Option<Position>)
         ensures saw { (m : Module) (seen : List (Option Place)) → Saw m self.old seen
             → Saw m self.new (seen ++ place_at m at ∷ []) };
+
+    /// So many steps were made at the instructions of a function from one on, in their order: both
+    /// are indices as those of a position.
+    // All at once, so that a step costs no call of its own.
+    fn see_run(&mut self, function: usize, start: usize, count: usize)
+        requires room { start + count < 2 ^ 64 }
+        ensures saw { (m : Module) (seen : List (Option Place)) → Saw m self.old seen
+            → Saw m self.new (seen ++ places_from m function start count) };
 }
 
 /// Nobody watches.
@@ -37,6 +45,9 @@ impl Watch for Unwatched {
 
     #[inline(always)]
     fn see(&mut self, at: Option<Position>) {}
+
+    #[inline(always)]
+    fn see_run(&mut self, function: usize, start: usize, count: usize) {}
 }
 
 /// Where the innermost frame stands, which is this one, where its next instruction is this one.

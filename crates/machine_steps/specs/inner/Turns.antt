@@ -1,5 +1,5 @@
 -- Steps in a frame.
-use Rattle.std.specs.Prelude.{◌≡◌, ℕ, ◌+◌, ◌<◌, ◌≤◌, List, Option}
+use Rattle.std.specs.Prelude.{◌≡◌, ℕ, ◌+◌, ◌<◌, ◌≤◌, List, ◌++◌, Option}
 use Rattle.wasm_syntax.specs.declared.module.ModuleParts.{ModuleParts as Module}
 use Rattle.wasm_syntax.specs.Machine.{Engine, Config}
 use Rattle.machine_code.specs.declared.prepared.Prepared.{Prepared}
@@ -9,9 +9,10 @@ use Rattle.machine_steps.specs.declared.machine.Outcome.{Outcome}
 use Rattle.machine_steps.specs.declared.machine.Outcome.TheVariants.{Next, Ended, Trap, Import, NoMemory, Stuck}
 use Rattle.machine_steps.specs.declared.steps.Turn.{Turn}
 use Rattle.machine_steps.specs.declared.steps.Turn.TheVariants.{Straight, Came}
-use Rattle.machine_steps.specs.Places.{Place}
+use Rattle.machine_steps.specs.Places.{Place, step_places}
 use Rattle.machine_steps.specs.calls.Runs as runs
 use Rattle.machine_steps.specs.calls.Runs.{Begins, Reached}
+use Rattle.machine_steps.specs.calls.Watches.{places_from}
 use Rattle.machine_steps.specs.calls.Watched.{Saw, Watched}
 
 -- what a step came to, with what is told beside of one that may have gone elsewhere
@@ -37,6 +38,11 @@ behind Came here = here
 abbrev pub NoCall : Turn → Outcome → Type 0
 NoCall Straight told = Unit {0}
 NoCall Came told = (call : ImportCall) → told ≡ Import call → ⊥
+
+-- behind the first n steps of a run so many were made, at the instructions of a function from one on
+pub record Ran (prepared : Prepared) (depth : ℕ) (m : Machine) (n function start count : ℕ) (m' : Machine) : Type 0 where
+  pub reached : (M : Engine) (c : Config) → Begins M prepared depth c m → Reached M prepared.codes.items c (n + count) m'
+  pub places : (M : Engine) (c : Config) → Begins M prepared depth c m → step_places M (n + count) c ≡ step_places M n c ++ places_from M.program.module_ function start count
 
 module _ {W : Type 0} (saw : Module → W → List (Option Place) → Type 0) (prepared : Prepared) (depth : ℕ) (m : Machine) (before : W) where
   -- so many steps of a run were made and seen

@@ -1,8 +1,10 @@
 use Rattle.std.proofs.Common.{◌≡◌, ◌≤◌, ◌<◌, ◌-◌, ◌+◌, ◌^◌, ℕ, length}
 use Rattle.std.specs.Prelude.{slice_get, Some, take, drop}
+use Rattle.wasm_syntax.specs.Machine.{Engine, Config}
 use Rattle.machine_code.specs.declared.prepared.Prepared.{Prepared}
 use Rattle.machine_steps.specs.declared.machine.Machine.{Machine}
-use Rattle.machine_steps.specs.inner.Turns.{Made, placed}
+use Rattle.machine_steps.specs.calls.Runs.{Begins, Reached}
+use Rattle.machine_steps.specs.inner.Turns.{Ran, placed}
 use Rattle.machine_steps.proofs.runs.straight.Given as goal
 
 abbrev pub invariant-loop-op : goal.invariant-loop-op
@@ -13,8 +15,10 @@ invariant-loop-op g l = record {
   few : l.count - length l.rest ≤ l.initial.left;
   kept : l.left ≡ l.initial.left;
   frames : l.m.stack.frames ≡ l.initial.m.stack.frames;
-  so_far : (prepared : Prepared) (depth fuel : ℕ) (first : Machine) (before : _) → slice_get prepared.codes.items l.fn.innermost.frame.function ≡ Some l.fn.innermost.code.now → l.initial.left ≤ fuel
-      → Made g.W.Watch.Saw prepared depth first before (fuel - l.initial.left) l.initial.m l.initial.watch → Made g.W.Watch.Saw prepared depth first before (fuel - l.initial.left + (l.count - length l.rest)) (placed (l.start + (l.count - length l.rest)) l.m) l.watch;
+  watched : l.watch ≡ l.initial.watch;
+  so_far : (prepared : Prepared) (depth n : ℕ) (first : Machine) → slice_get prepared.codes.items l.fn.innermost.frame.function ≡ Some l.fn.innermost.code.now
+      → ((M : Engine) (c : Config) → Begins M prepared depth c first → Reached M prepared.codes.items c n l.initial.m)
+      → Ran prepared depth first n l.fn.innermost.frame.function l.start (l.count - length l.rest) (placed (l.start + (l.count - length l.rest)) l.m);
 }
 
 abbrev pub decreases-loop-op : goal.decreases-loop-op
