@@ -140,12 +140,15 @@ near_later : (every k here later : ℕ) → here ≤ later → k ≤ max every (
 near_later every k here later le h = omega (arith, le, h)
 
 -- one is dropped, and one is due at the same step
-module _ (x : Recording) (every here k w wider : ℕ) (points kept : List Point) (d : Due x every here k w points) (many : 16 ≤ length points) (one : wider ≡ suc w) (dropped : kept ≡ remove points wider) where
+module _ (x : Recording) (every here k w wider l : ℕ) (points kept : List Point) (d : Due x every here k w points) (many : 16 ≤ length points) (one : wider ≡ w + 1) (dropped : kept ≡ remove points wider) (same : l ≡ k) where
+  next : wider ≡ suc w
+  next = omega (arith, one)
+
   removed : kept ≡ remove points (suc w)
-  removed = dropped ∙ ap (λ (n : ℕ). remove points n) one
+  removed = dropped ∙ ap (λ (n : ℕ). remove points n) next
 
   narrow : w < 15
-  narrow = d.up_to.some_narrow
+  narrow = d.some_narrow
 
   sixteen : length points ≡ 16
   sixteen = let few = d.up_to.few in omega (arith, few, many)
@@ -181,25 +184,23 @@ module _ (x : Recording) (every here k w wider : ℕ) (points kept : List Point)
             apart = d.up_to.apart;
             spaced = spaced;
             few = omega (arith, c);
-            some_narrow = more;
             wide_within = omega (arith, n, c);
             near = near;
           };
+          some_narrow = more;
           due = ap (λ (n : ℕ). n * k) (omega (arith, n, c)) ∙ far;
         },
         omega (arith, c),
       )
 
-  pub one_wider : wider < 15 → Due x every here k wider kept × (length kept < 16)
+  pub one_wider : wider < 15 → Due x every here l wider kept × (length kept < 16)
   one_wider more =
-      let is = one in
-      subst (λ (n : ℕ). Due x every here k n kept × (length kept < 16)) (sym one) (with_one_more (omega (arith, is, more)))
+      subst (λ (n : ℕ). Due x every here n wider kept × (length kept < 16)) (sym same)
+      (subst (λ (n : ℕ). Due x every here k n kept × (length kept < 16)) (sym next) (with_one_more (omega (arith, one, more))))
 
-  pub all_wide : 15 ≤ wider → Due x every here (k * 2) 0 kept × (length kept < 16)
-  all_wide many_wide =
+  doubled : 15 ≤ suc w → Due x every here (k * 2) 0 kept × (length kept < 16)
+  doubled all =
       let n = narrow in
-      let is = one in
-      let all : 15 ≤ suc w = omega (arith, is, many_wide) in
       let c = count in
       let some = d.up_to.apart in (
         record {
@@ -207,10 +208,10 @@ module _ (x : Recording) (every here k w wider : ℕ) (points kept : List Point)
             apart = omega (arith, some);
             spaced = spaced_doubled x k (suc w) kept (omega (arith, c, all)) spaced;
             few = omega (arith, c);
-            some_narrow = omega arith;
             wide_within = omega arith;
             near = near;
           };
+          some_narrow = omega arith;
           due = ap (λ (n : ℕ). n * (k * 2)) (omega (arith, c)) ∙ thirty ∙ ap (λ (n : ℕ). n * k) (omega (arith, n, all)) ∙ far;
         },
         omega (arith, c),
@@ -218,6 +219,44 @@ module _ (x : Recording) (every here k w wider : ℕ) (points kept : List Point)
     where
       thirty : 15 * (k * 2) ≡ 30 * k
       thirty = omega arith
+
+  pub all_wide : 15 ≤ wider → Due x every here (l * 2) 0 kept × (length kept < 16)
+  all_wide many_wide = subst (λ (n : ℕ). Due x every here (n * 2) 0 kept × (length kept < 16)) (sym same) (doubled (omega (arith, one, many_wide)))
+
+-- one is dropped behind the end, where a gap is wide
+pub settled : (x : Recording) (every end k w l wider : ℕ) (points kept : List Point) → Covers x every end k w points → 0 < w → w + 1 < length points → l ≡ k → wider ≡ w + 1 → kept ≡ remove points wider
+    → Covers x every end l wider kept
+settled x every end k zero l wider points kept covers some lt same one dropped = absurd (omega arith)
+settled x every end k (suc w) l wider points kept covers some lt same one dropped =
+    subst (λ (n : ℕ). Covers x every end n wider kept) (sym same) (subst (λ (n : ℕ). Covers x every end k n kept) (sym is) joined)
+  where
+    is : wider ≡ suc (suc w)
+    is = omega (arith, one)
+
+    within : suc (suc w) < length points
+    within = omega (arith, lt)
+
+    removed : kept ≡ remove points (suc (suc w))
+    removed = dropped ∙ ap (λ (n : ℕ). remove points n) is
+
+    count : length kept + 1 ≡ length points
+    count = ap (λ (qs : List Point). length qs + 1) removed ∙ length-remove points (suc (suc w)) within
+
+    joined : Covers x every end k (suc (suc w)) kept
+    joined =
+        let c = count in
+        let few = covers.up_to.few in
+        record {
+          up_to = record {
+            apart = covers.up_to.apart;
+            spaced = subst (λ (qs : List Point). Spaced x k (suc (suc w)) qs) (sym removed) (spaced_removed x k (suc w) points within covers.up_to.spaced);
+            few = omega (arith, c, few);
+            wide_within = omega (arith, c, within);
+            near = covers.up_to.near;
+          };
+          some = omega (arith, c, within);
+          reach = subst (λ (n : ℕ). end ≤ n * k) (omega (arith, c, within)) covers.reach;
+        }
 
 -- where one is due, and there are not as many as are kept
 pub added : (x : Recording) (every here k w : ℕ) (before points : List Point) (q : Point) → Due x every here k w before → length before < 16 → WaitsAt x here q → points ≡ before ++ q ∷ [] → Fresh x every here k w points
@@ -229,10 +268,10 @@ added x every here k w before points q d lt at e =
         apart = d.up_to.apart;
         spaced = subst (λ (qs : List Point). Spaced x k w qs) (sym e) (spaced_more x k w before q d.up_to.spaced (subst (λ (n : ℕ). WaitsAt x n q) (sym d.due) at));
         few = omega (arith, count, lt);
-        some_narrow = d.up_to.some_narrow;
         wide_within = omega (arith, count, le);
         near = d.up_to.near;
       };
+      some_narrow = d.some_narrow;
       some = omega (arith, count);
       next = ap (λ (n : ℕ). n * k) (omega (arith, count, le)) ∙ one_more (place w (length before)) ∙ ap (λ (n : ℕ). n + k) d.due;
     }
@@ -247,10 +286,10 @@ next_due x every here piece k w points f e = record {
     apart = f.up_to.apart;
     spaced = f.up_to.spaced;
     few = f.up_to.few;
-    some_narrow = f.up_to.some_narrow;
     wide_within = f.up_to.wide_within;
     near = near_later every (widest k w) here (here + piece) (omega arith) f.up_to.near;
   };
+  some_narrow = f.some_narrow;
   due = f.next ∙ ap (λ (n : ℕ). here + n) (sym e);
 }
 
@@ -261,7 +300,6 @@ covered x every here end k w points f le near = record {
     apart = f.up_to.apart;
     spaced = f.up_to.spaced;
     few = f.up_to.few;
-    some_narrow = f.up_to.some_narrow;
     wide_within = f.up_to.wide_within;
     near = near_later every (widest k w) here end le f.up_to.near;
   };

@@ -9,7 +9,7 @@ use wasm_machine::{EntryFault, StartFault};
 /// Why a run does not start: no function is exported under its name; the arguments are not as many
 /// as its parameters, or not of their types; or the element or data segment of an index lies
 /// outside, the first such one.
-#[derive(Clone, Copy, Debug, PartialEq, Eq)]
+#[derive(Clone, Copy, Debug)]
 pub enum StartRefusal {
     NoExport,
     BadArguments,

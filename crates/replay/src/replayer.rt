@@ -20,8 +20,9 @@ use wasm_machine::Instance;
 /// its steps.
 ///
 /// It keeps at most 16 checkpoints. Where another one is due, one is dropped, from the first on, so
-/// that the gap there is twice as wide as those behind it. So a move makes at most as many steps as
-/// two checkpoints are apart at first, or an eighth of the run.
+/// that the gap there is twice as wide as those behind it; and one more at the end, where gaps are
+/// wide. So a move makes at most as many steps as two checkpoints are apart at first, or an eighth of
+/// the run.
 #[derive(Drop)]
 pub struct Replayer<'a> {
     alloc: Global,
@@ -69,7 +70,8 @@ impl<'a> Replayer<'a> {
         requires { 1 ≤ every }
         ensures { Starts result recorded.entry every }
     {
-        let passed = pass(alloc, &recorded, every)?;
+        let mut passed = pass(alloc, &recorded, every)?;
+        passed.track.settle();
         let shown = passed.track.point_at(alloc, &recorded, 0)?;
         Ok(Replayer {
             alloc,

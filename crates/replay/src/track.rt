@@ -68,8 +68,20 @@ fn is_between(kept: u64, shown: u64, step: u64) -> bool
 }
 
 impl<'a> Track<'a> {
-    /// Drops the one between the first two narrow gaps, which become a wide one, where there are as
-    /// many as are kept. Where no gap is narrow any more, that is the new spacing.
+    /// Drops the one between the first two narrow gaps, which become a wide one.
+    fn join(&mut self)
+        requires { self.old.wide + 1 < length self.old.points.items }
+        ensures spacing { self.new.spacing ≡ self.old.spacing }
+        ensures wide { self.new.wide ≡ self.old.wide + 1 }
+        ensures points { self.new.points.items ≡ remove self.old.points.items self.new.wide }
+    {
+        let wide = self.wide + 1;
+        take_out(&mut self.points, wide);
+        self.wide = wide;
+    }
+
+    /// Drops one, where there are as many as are kept. Where no gap is narrow any more, that is the
+    /// new spacing.
     fn thin(&mut self)
         requires some_narrow { self.old.wide < 15 }
         requires fits { place self.old.wide (length self.old.points.items) * self.old.spacing
@@ -80,13 +92,21 @@ impl<'a> Track<'a> {
         if self.points.len() < MOST {
             return;
         }
-        let wide = self.wide + 1;
-        take_out(&mut self.points, wide);
-        if wide < MOST - 1 {
-            self.wide = wide;
-        } else {
+        self.join();
+        if self.wide == MOST - 1 {
             self.wide = 0;
             self.spacing *= 2;
+        }
+    }
+
+    /// Drops one more at the end of a run, behind which none is added, where there are wide gaps:
+    /// so moves hold no more states at once than the first pass.
+    pub(crate) fn settle(&mut self)
+        ensures { (x : Recording) (every end : ℕ) → CoversIn x every end self.old
+            → CoversIn x every end self.new }
+    {
+        if 0 < self.wide && self.wide < MOST - 1 && self.points.len() == MOST {
+            self.join();
         }
     }
 

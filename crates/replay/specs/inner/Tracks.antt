@@ -35,23 +35,24 @@ abbrev pub widest : (spacing wide : ℕ) → ℕ
 widest spacing zero = spacing
 widest spacing (suc n) = spacing * 2
 
--- Checkpoints on the way to here, of which at least one gap is narrow. No gap is wider than asked for, or than an eighth of the steps up to here.
+-- Checkpoints on the way to here. No gap is wider than asked for, or than an eighth of the steps up to here.
 pub record UpTo (x : Recording) (every here spacing wide : ℕ) (points : List Point) : Type 0 where
   pub apart : 1 ≤ spacing
   pub spaced : Spaced x spacing wide points
   pub few : length points ≤ 16
-  pub some_narrow : wide < 15
   pub wide_within : wide ≤ length points
   pub near : widest spacing wide ≤ max every (here / 8)
 
--- The next one is due here.
+-- The next one is due here. At least one gap is narrow.
 pub record Due (x : Recording) (every here spacing wide : ℕ) (points : List Point) : Type 0 where
   pub up_to : UpTo x every here spacing wide points
+  pub some_narrow : wide < 15
   pub due : place wide (length points) * spacing ≡ here
 
--- The last one is here.
+-- The last one is here, and at least one gap is narrow.
 pub record Fresh (x : Recording) (every here spacing wide : ℕ) (points : List Point) : Type 0 where
   pub up_to : UpTo x every here spacing wide points
+  pub some_narrow : wide < 15
   pub some : 1 ≤ length points
   pub next : place wide (length points) * spacing ≡ here + spacing
 
