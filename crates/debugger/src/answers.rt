@@ -1,11 +1,11 @@
 //! The texts that commands print.
 
 ghost use Rattle.std.specs.Prelude.{◌≡◌, ◌++◌, Some, IfOk, OnOk, option_copied, slice_get};
-ghost use Rattle.dwarf_types.specs.calls.Known.{AreKnown};
 ghost use Rattle.var_eval.specs.calls.Names.{AreNames};
 ghost use Rattle.debugger.specs.Texts as texts;
 ghost use Rattle.debugger.specs.Variables as variables;
 ghost use Rattle.debugger.specs.Session as definitions;
+ghost use Rattle.debugger.specs.calls.Types.{AreTypes};
 
 use crate::known_types::KnownTypes;
 use crate::view::{Chosen, looks_of, view_of};
@@ -69,13 +69,12 @@ fn push_frame_variables(
     frame: &Frame,
 ) -> Result<(), NoMemory>
     requires information { information.now ≡ subject.now.information }
-    requires types { AreKnown subject.now.information.units types.now.arrays }
+    requires types { AreTypes subject.now.information.units types.now }
     ensures { OnOk result (out.new ≡ out.old ++ variables.variables_text subject.now
         (variables.left_in chosen.index chosen.operands) frame.now) }
 {
     let view = view_of(subject, frame);
-    let structures = types.structures(alloc, information.units())?;
-    let typed = types.typed(information.units(), &structures);
+    let typed = types.typed(information.units());
     let looks = looks_of(alloc, information, subject, frame, chosen, &view, typed)?;
     push_variables(out, alloc, &looks)
 }
@@ -90,7 +89,7 @@ fn push_chosen_variables(
     chosen: Chosen,
 ) -> Result<(), NoMemory>
     requires information { information.now ≡ subject.now.information }
-    requires types { AreKnown subject.now.information.units types.now.arrays }
+    requires types { AreTypes subject.now.information.units types.now }
     ensures { OnOk result (out.new ≡ out.old ++ definitions.of_chosen subject.now chosen.index
         (variables.variables_text subject.now
         (variables.left_in chosen.index chosen.operands))) }
@@ -115,7 +114,7 @@ fn path_line<'a>(
     path: &Path<'_>,
 ) -> Answer
     requires information { information.now ≡ subject.now.information }
-    requires types { AreKnown subject.now.information.units types.now.arrays }
+    requires types { AreTypes subject.now.information.units types.now }
     requires names { AreNames subject.now.information.sections subject.now.information.units
         names.old }
     ensures text { IfOk result (λ text. text ≡ variables.path_text subject.now
@@ -124,8 +123,7 @@ fn path_line<'a>(
         names.new }
 {
     let view = view_of(subject, frame);
-    let structures = types.structures(alloc, information.units())?;
-    let typed = types.typed(information.units(), &structures);
+    let typed = types.typed(information.units());
     let looks = looks_of(alloc, information, subject, frame, chosen, &view, typed)?;
     let mut out = Text::new(alloc);
     push_path(&mut out, alloc, &looks, names, word, path)?;
@@ -247,7 +245,7 @@ fn variables_by(
     chosen: Chosen,
 ) -> Answer
     requires information { information.now ≡ subject.now.information }
-    requires types { AreKnown subject.now.information.units types.now.arrays }
+    requires types { AreTypes subject.now.information.units types.now }
     ensures { IfOk result (λ text. text
         ≡ definitions.chosen_variables subject.now chosen.index chosen.operands) }
 {
@@ -282,7 +280,7 @@ fn at_path_by<'a>(
     path: &Path<'_>,
 ) -> Answer
     requires information { information.now ≡ subject.now.information }
-    requires types { AreKnown subject.now.information.units types.now.arrays }
+    requires types { AreTypes subject.now.information.units types.now }
     requires names { AreNames subject.now.information.sections subject.now.information.units
         names.old }
     ensures text { IfOk result (λ text. text ≡ definitions.chosen_path subject.now chosen.index

@@ -1,7 +1,7 @@
 //! A command of the debugger.
 
 /// What a command asks for.
-#[derive(Clone, Copy, Debug, PartialEq, Eq)]
+#[derive(Clone, Copy, PartialEq, Eq)]
 pub enum Command {
     /// The lines of each frame.
     Backtrace,

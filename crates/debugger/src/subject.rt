@@ -6,10 +6,10 @@ ghost use Rattle.wasm_syntax.specs.Valid.{There};
 ghost use Rattle.dwarf_info.specs.Sections.{greatest_section};
 ghost use Rattle.dump_match.specs.States.{StateOperandCount};
 ghost use Rattle.debugger.specs.Recorded as recorded;
-ghost use Rattle.dwarf_types.specs.calls.Known.{AreKnown};
 ghost use Rattle.var_eval.specs.calls.Names.{AreNames};
 ghost use Rattle.debug_frames.specs.Information.{information};
 ghost use Rattle.debugger.specs.Subject.{Spells, subject_on};
+ghost use Rattle.debugger.specs.calls.Types.{AreTypes};
 
 use crate::known_types::KnownTypes;
 use crate::{recorded_globals, recorded_memory};
@@ -43,11 +43,11 @@ pub struct Subject<'a, 'm, 'd, 'b> {
 
 impl<'a, 'm, 'd, 'b> Model for Subject<'a, 'm, 'd, 'b> {
     ghost use Rattle.std.specs.Prelude.{◌≡◌, IfSome, option_map};
-    ghost use Rattle.dwarf_types.specs.calls.Known.{AreKnown};
     ghost use Rattle.var_eval.specs.calls.Names.{AreNames};
     ghost use Rattle.debug_frames.specs.Information.{information};
     ghost use Rattle.debugger.specs.Recorded.{recorded_globals, recorded_memory};
     ghost use Rattle.debugger.specs.Subject.{Subject, Spells, subject_on};
+    ghost use Rattle.debugger.specs.calls.Types.{AreTypes};
 
     ghost Value = { Subject };
 
@@ -56,8 +56,7 @@ impl<'a, 'm, 'd, 'b> Model for Subject<'a, 'm, 'd, 'b> {
 
     ghost invariant = { λ s. Spells s.bytes.now s.matched.module_
         × IfSome s.known (λ x. x ≡ information s.bytes.now s.matched.module_.customs)
-        × IfSome s.types (λ t.
-        AreKnown (information s.bytes.now s.matched.module_.customs).units t.arrays)
+        × IfSome s.types (AreTypes (information s.bytes.now s.matched.module_.customs).units)
         × IfSome s.names (λ n.
         AreNames (information s.bytes.now s.matched.module_.customs).sections
         (information s.bytes.now s.matched.module_.customs).units n)
@@ -153,7 +152,7 @@ impl<'a, 'm, 'd, 'b> Subject<'a, 'm, 'd, 'b> {
         information: &Information<'a>,
     ) -> Result<KnownTypes, NoMemory>
         requires { information.now ≡ self.old.information }
-        ensures value { IfOk result (λ t. AreKnown self.old.information.units t.arrays) }
+        ensures value { IfOk result (AreTypes self.old.information.units) }
         ensures same { self.new ≡ self.old }
     {
         match self.types.take() {
@@ -167,7 +166,7 @@ impl<'a, 'm, 'd, 'b> Subject<'a, 'm, 'd, 'b> {
 
     /// Keeps what is known of the types of the module.
     pub(crate) fn keep_types(&mut self, types: KnownTypes)
-        requires { AreKnown self.old.information.units types.arrays }
+        requires { AreTypes self.old.information.units types }
         ensures { self.new ≡ self.old }
     {
         self.types = Some(types);

@@ -1,21 +1,22 @@
 -- What is known of arrays and structures, where it is known of one more.
-use Rattle.std.proofs.Common.{◌≡◌, ℕ, Bool, true, false, cond, eqb, Some, Option, refl, sym, ap, subst, ◌∙◌}
-use Rattle.std.specs.Prelude.{IfSome, List, filter}
+use Rattle.std.proofs.Common.{◌≡◌, ℕ, Bool, true, false, cond, eqb, Some, None, Option, refl, sym, ap, subst, ◌∙◌}
+use Rattle.std.specs.Prelude.{IfSome, List}
 use Rattle.std.specs.Ordering.{nat_cmp, is_eq}
 use Rattle.std.specs.BTreeMap.{get}
 use Rattle.std.proofs.lemmas.Bool.{eqb-true}
 use Rattle.pm_text.proofs.Lists.{is_eq_at}
 use Rattle.dwarf_info.specs.declared.entry.UnitAnswer.{UnitAnswer}
 use Rattle.dwarf_info.specs.declared.entry.Entry.{Entry}
-use Rattle.dwarf_info.specs.declared.entry.Unit.{Unit as UnitTree}
-use Rattle.dwarf_entries.specs.Standing.{Standing, standing_at, standing_in, entries_inside}
+use Rattle.dwarf_entries.specs.Standing.{Standing, standing_at, inside}
 use Rattle.dwarf_types.specs.Counts.{counts}
 use Rattle.dwarf_types.specs.calls.Subranges.{Subranges, AreOf}
 use Rattle.dwarf_types.specs.calls.Known.{AreKnown}
-use Rattle.dwarf_types.specs.calls.Contents.{stands_in, contents, AreContentsOf, AreContents}
+use Rattle.dwarf_types.specs.calls.Inside.{AreInside, picked}
+use Rattle.dwarf_types.specs.calls.Contents.{contents, AreContentsIn, AreContentsOf, AreContents}
 use Rattle.dwarf_types.specs.declared.arrays.Arrays.{Arrays}
-use Rattle.dwarf_types.specs.calls.Numbers.{AreFirst, AreFirstOf}
+use Rattle.dwarf_types.specs.calls.Numbers.{AreFirst, AreFirstIn, AreFirstOf}
 use Rattle.dwarf_types.specs.declared.enumerators.Enumerators.{Enumerators}
+use Rattle.dwarf_types.specs.declared.structures.MemberPositions.{MemberPositions}
 use Rattle.dwarf_types.specs.declared.structures.Structures.{Structures}
 
 -- of one more offset
@@ -50,31 +51,33 @@ rows_here o rows s is are = subst (λ (x : Option Subranges). IfSome x (AreOf (S
 
 -- ---- what stands in structures
 
-pub contents_found : (s : Standing) (u : UnitTree) (e : Entry) (es : List Entry) (xs : List Standing) → u ≡ s.unit → e ≡ s.entry → es ≡ entries_inside s → xs ≡ filter (stands_in e.depth) (standing_in u es)
-    → xs ≡ contents s
-contents_found s u e es xs unit is inside are =
-    are ∙ ap (λ (x : Entry). filter (stands_in x.depth) (standing_in u es)) is ∙ ap (λ (x : UnitTree). filter (stands_in s.entry.depth) (standing_in x es)) unit
-    ∙ ap (λ (x : List Entry). filter (stands_in s.entry.depth) (standing_in s.unit x)) inside
-
-pub contents_kept : (units : List UnitAnswer) (before after : Structures) (at : ℕ) (s : Standing) (xs : List Standing)
-    → ((us : List UnitAnswer) → AreContents us before → AreContentsOf (standing_at us at) xs → AreContents us after) → AreContents units before → Some s ≡ standing_at units at → xs ≡ contents s
+pub contents_kept : (units : List UnitAnswer) (before after : Structures) (at : ℕ) (s : Standing) (m : MemberPositions)
+    → ((us : List UnitAnswer) → AreContents us before → AreContentsOf (standing_at us at) m → AreContents us after) → AreContents units before → Some s ≡ standing_at units at → AreContentsIn s m
     → AreContents units after
-contents_kept units before after at s xs kept are found is = kept units are (subst (λ (o : Option Standing). AreContentsOf o xs) found is)
+contents_kept units before after at s m kept are found is = kept units are (subst (λ (o : Option Standing). AreContentsOf o m) found is)
 
-pub contents_known : (units : List UnitAnswer) (structures : Option Structures) (o : Option (List Standing)) (s : Standing) (e : Entry) → e ≡ s.entry
+pub contents_known : (units : List UnitAnswer) (structures : Option Structures) (o : Option MemberPositions) (s : Standing) (e : Entry) → e ≡ s.entry
     → ((us : List UnitAnswer) → IfSome structures (AreContents us) → IfSome o (AreContentsOf (standing_at us e.at)))
     → IfSome structures (AreContents units) → standing_at units s.entry.at ≡ Some s → IfSome o (AreContentsOf (Some s))
 contents_known units structures o s e is got are found =
     subst (λ (x : Option Standing). IfSome o (AreContentsOf x)) (ap (λ (x : Entry). standing_at units x.at) is ∙ found) (got units are)
 
-pub contents_got : (units : List UnitAnswer) (structures : Structures) (at : ℕ) (o : Option (List Standing)) → o ≡ get nat_cmp structures.members at → AreContents units structures
+pub contents_got : (units : List UnitAnswer) (structures : Structures) (at : ℕ) (o : Option MemberPositions) → o ≡ get nat_cmp structures.members at → AreContents units structures
     → IfSome o (AreContentsOf (standing_at units at))
-contents_got units structures at o is are = subst (λ (x : Option (List Standing)). IfSome x (AreContentsOf (standing_at units at))) (sym is) (are.members at)
+contents_got units structures at o is are = subst (λ (x : Option MemberPositions). IfSome x (AreContentsOf (standing_at units at))) (sym is) (are.members at)
+
+pub range_told : (o : Option MemberPositions) (s : Standing) → IfSome o (AreContentsOf (Some s)) → IfSome o (λ m. AreInside s m.range)
+range_told None s are = tt
+range_told (Some m) s are = are.range
+
+pub told_here : (o : Option MemberPositions) (s : Standing) → IfSome o (AreContentsOf (Some s)) → IfSome o (λ m. picked m.positions (inside s) ≡ contents s)
+told_here None s are = tt
+told_here (Some m) s are = are.told
 
 -- ---- enumerators
 
 pub numbers_kept : (units : List UnitAnswer) (before after : Structures) (at : ℕ) (s : Standing) (e : Enumerators)
-    → ((us : List UnitAnswer) → AreContents us before → AreFirstOf (standing_at us at) e → AreContents us after) → AreContents units before → Some s ≡ standing_at units at → AreFirst s e
+    → ((us : List UnitAnswer) → AreContents us before → AreFirstOf (standing_at us at) e → AreContents us after) → AreContents units before → Some s ≡ standing_at units at → AreFirstIn s e
     → AreContents units after
 numbers_kept units before after at s e kept are found is = kept units are (subst (λ (o : Option Standing). AreFirstOf o e) found is)
 
@@ -88,5 +91,8 @@ pub numbers_got : (units : List UnitAnswer) (structures : Structures) (at : ℕ)
     → IfSome o (AreFirstOf (standing_at units at))
 numbers_got units structures at o is are = subst (λ (x : Option Enumerators). IfSome x (AreFirstOf (standing_at units at))) (sym is) (are.numbers at)
 
+pub first_range : (o : Option Enumerators) (e : Enumerators) (s : Standing) → o ≡ Some e → IfSome o (AreFirstOf (Some s)) → AreInside s e.range
+first_range o e s is are = (subst (λ (x : Option Enumerators). IfSome x (AreFirstOf (Some s))) is are).range
+
 pub first_here : (o : Option Enumerators) (e : Enumerators) (s : Standing) → o ≡ Some e → IfSome o (AreFirstOf (Some s)) → AreFirst s e
-first_here o e s is are = subst (λ (x : Option Enumerators). IfSome x (AreFirstOf (Some s))) is are
+first_here o e s is are = (subst (λ (x : Option Enumerators). IfSome x (AreFirstOf (Some s))) is are).first

@@ -9,7 +9,7 @@ use dwarf_entries::tags::{
 };
 
 /// What a type entry is.
-#[derive(Clone, Copy, Debug, PartialEq, Eq)]
+#[derive(Clone, Copy, PartialEq, Eq)]
 pub enum Class {
     /// Another name of a type, or a type with a qualifier (DWARF 4 sections 5.2 and 5.3).
     Passed,

@@ -1,14 +1,16 @@
 //! The enumerators of an enumeration by their numbers (DWARF 4 section 5.7).
 
-ghost use Rattle.std.specs.Prelude.{◌≡◌, ◌≤◌, ◌*◌, ◌^◌, ℕ, pos, Some, IfOk, OnOk, filter, find, option_copied};
+ghost use Rattle.std.specs.Prelude.{◌≡◌, ◌≤◌, ◌<◌, ◌*◌, ◌^◌, ℕ, pos, length, slice_get, Some, IfOk, OnOk, filter, find, option_and_then};
 ghost use Rattle.std.specs.Option.{option_or};
 ghost use Rattle.std.specs.Ordering.{nat_cmp};
 ghost use Rattle.std.specs.BTreeMap.{get};
-ghost use Rattle.dwarf_entries.specs.Standing.{is_child};
+ghost use Rattle.dwarf_entries.specs.Standing.{is_child, entries_inside};
 ghost use Rattle.dwarf_entries.specs.Tags.{tag_enumerator};
-ghost use Rattle.dwarf_types.specs.calls.Numbers.{AreFirst, has_key, number_key};
+ghost use Rattle.dwarf_types.specs.calls.Inside.{AreInside};
+ghost use Rattle.dwarf_types.specs.calls.Numbers.{AreFirstIn, has_key, number_key};
 ghost use Rattle.dwarf_types.specs.inner.Firsts.{key_in, own_at};
 
+use crate::entry_range::EntryRange;
 use causes::NoMemory;
 use dwarf_entries::names::CONST_VALUE;
 use dwarf_entries::tags::ENUMERATOR;
@@ -16,28 +18,15 @@ use dwarf_entries::{Standing, is_child, number};
 use dwarf_info::Entry;
 use std::alloc::Global;
 use std::collections::BTreeMap;
-use std::marker::Model;
-
-/// An enumerator. Contracts see it as its entry.
-#[derive(Drop)]
-pub(crate) struct Enumerator<'r, 'a> {
-    entry: &'r Entry<'a>,
-}
-
-impl<'r, 'a> Model for Enumerator<'r, 'a> {
-    ghost use Rattle.dwarf_info.specs.declared.entry.Entry.{Entry};
-
-    ghost Value = { Entry };
-
-    ghost view = { λ x. x.entry.now };
-}
 
 /// The first enumerator of each number, of an enumeration of this size in bytes: numbers that are
-/// the same in so many bytes are one.
+/// the same in so many bytes are one. Each is kept as its position among the entries that stand in
+/// the enumeration.
 #[derive(Drop)]
-pub struct Enumerators<'r, 'a> {
+pub struct Enumerators {
     pub(crate) size: u64,
-    pub(crate) first: BTreeMap<u64, Enumerator<'r, 'a>>,
+    pub(crate) range: EntryRange,
+    pub(crate) first: BTreeMap<u64, u32>,
 }
 
 /// How many numbers types of this size have.
@@ -72,73 +61,74 @@ fn key_in(entry: &Entry<'_>, depth: u32, size: u64) -> Option<u64>
     }
 }
 
-/// Adds an enumerator of a number behind all others.
-fn add_first<'r, 'a>(
-    first: &mut BTreeMap<u64, Enumerator<'r, 'a>>,
-    key: u64,
-    entry: &'r Entry<'a>,
-) -> Result<(), NoMemory>
+/// Adds an enumerator of a number, at a position behind all others.
+fn add_first(first: &mut BTreeMap<u64, u32>, key: u64, position: u32) -> Result<(), NoMemory>
     ensures { OnOk result ((n : ℕ) → get nat_cmp first.new n
-        ≡ option_or (get nat_cmp first.old n) (own_at entry.now (Some key) n)) }
+        ≡ option_or (get nat_cmp first.old n) (own_at position (Some key) n)) }
 {
     if first.contains_key(&key) {
         return Ok(());
     }
-    first.insert(key, Enumerator { entry })?;
+    first.insert(key, position)?;
     Ok(())
 }
 
-/// Adds an entry behind all others, if it is an enumerator.
-fn add_entry<'r, 'a>(
-    first: &mut BTreeMap<u64, Enumerator<'r, 'a>>,
-    entry: &'r Entry<'a>,
+/// Adds the entry at a position behind all others, if it is an enumerator.
+fn add_entry(
+    first: &mut BTreeMap<u64, u32>,
+    entry: &Entry<'_>,
+    position: u32,
     depth: u32,
     size: u64,
 ) -> Result<(), NoMemory>
     requires { size ≤ 8 }
     ensures { OnOk result ((n : ℕ) → get nat_cmp first.new n
-        ≡ option_or (get nat_cmp first.old n) (own_at entry.now (key_in depth size entry.now) n)) }
+        ≡ option_or (get nat_cmp first.old n) (own_at position (key_in depth size entry.now) n)) }
 {
     match key_in(entry, depth, size) {
-        Some(key) => add_first(first, key, entry),
+        Some(key) => add_first(first, key, position),
         None => Ok(()),
     }
 }
 
-/// The first enumerator of each number, of those among entries that are children of one of this
-/// depth.
-#[tactic(auto, using(crate::proofs::FirstLaws::turn_first, crate::proofs::FirstLaws::all_first))]
-fn first_among<'r, 'a>(
+/// The position of the first enumerator of each number, of those among entries that are children of
+/// one of this depth.
+#[tactic(auto, using(crate::proofs::FirstLaws::all_first))]
+fn first_among(
     alloc: Global,
-    entries: &'r [Entry<'a>],
+    entries: &[Entry<'_>],
     depth: u32,
     size: u64,
-) -> Result<BTreeMap<u64, Enumerator<'r, 'a>>, NoMemory>
-    requires { size ≤ 8 }
-    ensures { IfOk result (λ first. (n : ℕ) → get nat_cmp first n
+) -> Result<BTreeMap<u64, u32>, NoMemory>
+    requires size { size ≤ 8 }
+    requires few { length entries.now < 2 ^ 32 }
+    ensures { IfOk result (λ first. (n : ℕ)
+        → option_and_then (slice_get entries.now) (get nat_cmp first n)
         ≡ find (has_key size n) (filter (is_child depth tag_enumerator) entries.now)) }
 {
     let mut first = BTreeMap::new(alloc);
-    let mut left = entries;
-    'entries: while let [entry, behind @ ..] = left {
-        add_entry(&mut first, entry, depth, size)?;
-        left = behind;
+    'entries: for (number, entry) in entries.iter().enumerate() {
+        add_entry(&mut first, entry, number as u32, depth, size)?;
     }
     Ok(first)
 }
 
-impl<'r, 'a> Enumerators<'r, 'a> {
-    /// Those of an enumeration of this size. It takes time and memory by the entries in it.
-    pub(crate) fn of(
+impl Enumerators {
+    /// Those of an enumeration of this size, in which the entries of a range stand. It takes time and
+    /// memory by these entries.
+    pub(crate) fn of<'r, 'a>(
         alloc: Global,
         standing: &Standing<'r, 'a>,
+        range: EntryRange,
         size: u64,
     ) -> Result<Self, NoMemory>
-        requires { size ≤ 8 }
-        ensures { IfOk result (AreFirst standing.now) }
+        requires size { size ≤ 8 }
+        requires range { AreInside standing.now range }
+        requires few { length (entries_inside standing.now) < 2 ^ 32 }
+        ensures { IfOk result (AreFirstIn standing.now) }
     {
         let first = first_among(alloc, standing.inside(), standing.entry().depth, size)?;
-        Ok(Enumerators { size, first })
+        Ok(Enumerators { size, range, first })
     }
 
     /// The size of the type in bytes.
@@ -148,13 +138,19 @@ impl<'r, 'a> Enumerators<'r, 'a> {
         self.size
     }
 
-    /// The first one of a number.
-    pub fn first(&self, number: i128) -> Option<&'r Entry<'a>>
-        requires { self.now.size ≤ 8 }
-        ensures { option_copied result
-            ≡ get nat_cmp self.now.first (number_key self.now.size number) }
+    /// Which entries of its unit stand in the enumeration.
+    pub(crate) fn range(&self) -> EntryRange
+        ensures { result ≡ self.now.range }
     {
-        let found = self.first.get(&number_key(self.size, number))?;
-        Some(found.entry)
+        self.range
+    }
+
+    /// The position of the first one of a number.
+    pub(crate) fn first(&self, number: i128) -> Option<u32>
+        requires { self.now.size ≤ 8 }
+        ensures { result ≡ get nat_cmp self.now.first (number_key self.now.size number) }
+    {
+        let position = self.first.get(&number_key(self.size, number))?;
+        Some(*position)
     }
 }

@@ -11,7 +11,7 @@ use dwarf_entries::{LONGEST_CHAIN, Standing, natural, type_entry};
 use dwarf_info::Units;
 
 /// What stands behind the types passed through.
-#[derive(Clone, Copy, Debug, PartialEq, Eq)]
+#[derive(Clone, Copy, PartialEq, Eq)]
 pub enum Kind {
     Base { encoding: u64 },
     /// A pointer or a reference to the type at an offset of the section.

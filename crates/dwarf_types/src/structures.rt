@@ -1,13 +1,16 @@
 //! What stands in the structures and enumerations of units, by the offsets of their entries (DWARF 4
 //! sections 5.5.6, 5.5.9 and 5.7).
 
-ghost use Rattle.std.specs.Prelude.{◌≡◌, ◌≤◌, List, filter, IfOk, OnOk, IfSome, option_copied};
+ghost use Rattle.std.specs.Prelude.{◌≡◌, ◌≤◌, ◌<◌, ◌^◌, ◌++◌, ◌∷◌, [], List, length, filter, Some, IfOk, OnOk, IfSome, option_copied, if◌then◌else◌};
+ghost use Rattle.dwarf_info.specs.declared.entry.Unit.{Unit as UnitTree};
 ghost use Rattle.dwarf_info.specs.declared.entry.UnitAnswer.{UnitAnswer};
-ghost use Rattle.dwarf_entries.specs.Standing.{standing_in, standing_at};
-ghost use Rattle.dwarf_types.specs.calls.Contents.{AreContents, AreContentsOf, contents, is_content, stands_in};
+ghost use Rattle.dwarf_entries.specs.Standing.{standing_in, standing_at, entries_inside};
+ghost use Rattle.dwarf_types.specs.calls.Inside.{AreInside, picked};
+ghost use Rattle.dwarf_types.specs.calls.Contents.{AreContents, AreContentsIn, AreContentsOf, is_content, stands_in};
 ghost use Rattle.dwarf_types.specs.calls.Numbers.{AreFirstOf};
 
 use crate::class::{Class, class_of};
+use crate::entry_range::{EntryRange, range_inside};
 use crate::enumerators::Enumerators;
 use crate::shallow::is_shallow;
 use causes::NoMemory;
@@ -23,15 +26,24 @@ use std::collections::BTreeMap;
 pub const VARIANT_PART: u64 = 0x33;
 
 /// So few entries are read again by each who asks for an enumerator.
-const FEW_ENTRIES: usize = 16;
+const FEW_ENTRIES: u32 = 16;
+
+/// The members and variant parts among the children of a structure: which entries of its unit stand
+/// in it, and the positions of these among them.
+#[derive(Drop)]
+pub struct MemberPositions {
+    pub(crate) range: EntryRange,
+    pub(crate) positions: Items<u32>,
+}
 
 /// What stands in structures and enumerations and is told of them, by the offsets of their entries:
 /// the members and variant parts among the children of a structure, and the first enumerator of each
-/// number. One that is left out is no mistake: the entries in it are read again by each who asks.
+/// number. It is asked with the units that it was made of, and borrows nothing of them. One that is
+/// left out is no mistake: the entries in it are read again by each who asks.
 #[derive(Drop)]
-pub struct Structures<'r, 'a> {
-    pub(crate) members: BTreeMap<u32, Items<Standing<'r, 'a>>>,
-    pub(crate) numbers: BTreeMap<u32, Enumerators<'r, 'a>>,
+pub struct Structures {
+    pub(crate) members: BTreeMap<u32, MemberPositions>,
+    pub(crate) numbers: BTreeMap<u32, Enumerators>,
 }
 
 /// Whether an entry is a member or a variant part, and a child of one of this depth.
@@ -41,54 +53,65 @@ fn is_content(entry: &Entry<'_>, depth: u32) -> bool
     is_child(entry, depth, MEMBER) || is_child(entry, depth, VARIANT_PART)
 }
 
-/// The members and variant parts among entries that are children of one of this depth.
-fn contents_among<'r, 'a>(
-    alloc: Global,
-    unit: &'r Unit<'a>,
-    entries: &'r [Entry<'a>],
+/// Adds the position of an entry behind all others, if it is a member or a variant part, and a child
+/// of one of this depth.
+fn push_content(
+    positions: &mut Items<u32>,
+    entry: &Entry<'_>,
+    position: u32,
     depth: u32,
-) -> Result<Items<Standing<'r, 'a>>, NoMemory>
-    ensures { IfOk result (λ xs. xs
-        ≡ filter (stands_in depth) (standing_in unit.now entries.now)) }
+) -> Result<(), NoMemory>
+    ensures { OnOk result (positions.new
+        ≡ positions.old ++ (if is_content depth entry.now then position ∷ [] else [])) }
 {
-    let mut contents = Items::new(alloc);
-    let mut left = entries;
-    'entries: while let [entry, behind @ ..] = left {
-        if is_content(entry, depth) {
-            contents.push(Standing::new(unit, entry, behind))?;
-        }
-        left = behind;
+    if !is_content(entry, depth) {
+        return Ok(());
     }
-    Ok(contents)
+    positions.push(position)
 }
 
-/// The members and variant parts among the children of an entry.
-#[tactic(auto, using(crate::proofs::KeptLaws::contents_found))]
-fn contents_of<'r, 'a>(
+/// The positions of the members and variant parts among entries that are children of one of this
+/// depth.
+#[tactic(auto, using(crate::proofs::ContentLaws::all_told))]
+fn contents_among(alloc: Global, entries: &[Entry<'_>], depth: u32) -> Result<Items<u32>, NoMemory>
+    requires { length entries.now < 2 ^ 32 }
+    ensures { IfOk result (λ positions. (u : UnitTree)
+        → picked positions (standing_in u entries.now)
+        ≡ filter (stands_in depth) (standing_in u entries.now)) }
+{
+    let mut positions = Items::new(alloc);
+    'entries: for (number, entry) in entries.iter().enumerate() {
+        push_content(&mut positions, entry, number as u32, depth)?;
+    }
+    Ok(positions)
+}
+
+/// The members and variant parts among the children of an entry, in which the entries of a range
+/// stand.
+#[tactic(auto, using(crate::proofs::ContentLaws::contents_found))]
+fn members_of<'r, 'a>(
     alloc: Global,
     standing: &Standing<'r, 'a>,
-) -> Result<Items<Standing<'r, 'a>>, NoMemory>
-    ensures { IfOk result (λ xs. xs ≡ contents standing.now) }
+    range: EntryRange,
+) -> Result<MemberPositions, NoMemory>
+    requires range { AreInside standing.now range }
+    requires few { length (entries_inside standing.now) < 2 ^ 32 }
+    ensures { IfOk result (AreContentsIn standing.now) }
 {
-    let contents = contents_among(
-        alloc,
-        standing.unit(),
-        standing.inside(),
-        standing.entry().depth,
-    )?;
-    Ok(contents)
+    let positions = contents_among(alloc, standing.inside(), standing.entry().depth)?;
+    Ok(MemberPositions { range, positions })
 }
 
 /// Keeps what stands in a structure.
-fn keep_members<'r, 'a>(
-    structures: &mut Structures<'r, 'a>,
+fn keep_members(
+    structures: &mut Structures,
     at: u32,
-    children: Items<Standing<'r, 'a>>,
+    members: MemberPositions,
 ) -> Result<(), NoMemory>
     ensures { OnOk result ((units : List UnitAnswer) → AreContents units structures.old
-        → AreContentsOf (standing_at units at) children.entry → AreContents units structures.new) }
+        → AreContentsOf (standing_at units at) members → AreContents units structures.new) }
 {
-    structures.members.insert(at, children)?;
+    structures.members.insert(at, members)?;
     Ok(())
 }
 
@@ -99,7 +122,7 @@ fn add_structure<'r, 'a>(
     alloc: Global,
     units: &'r Units<'a>,
     at: u32,
-    structures: &mut Structures<'r, 'a>,
+    structures: &mut Structures,
 ) -> Result<(), NoMemory>
     requires { AreContents units.now structures.old }
     ensures { OnOk result (AreContents units.now structures.new) }
@@ -107,22 +130,25 @@ fn add_structure<'r, 'a>(
     let Some(standing) = standing_at(units, at) else {
         return Ok(());
     };
-    let contents = contents_of(alloc, &standing)?;
-    if contents.len() >= standing.inside().len() / 8 {
+    let Some(range) = range_inside(units, at, &standing) else {
+        return Ok(());
+    };
+    let members = members_of(alloc, &standing, range)?;
+    if members.positions.len() >= (range.count / 8) as usize {
         return Ok(());
     }
-    keep_members(structures, at, contents)?;
+    keep_members(structures, at, members)?;
     Ok(())
 }
 
 /// Keeps the enumerators of an enumeration.
-fn keep_numbers<'r, 'a>(
-    structures: &mut Structures<'r, 'a>,
+fn keep_numbers(
+    structures: &mut Structures,
     at: u32,
-    enumerators: Enumerators<'r, 'a>,
+    enumerators: Enumerators,
 ) -> Result<(), NoMemory>
     ensures { OnOk result ((units : List UnitAnswer) → AreContents units structures.old
-        → AreFirstOf (standing_at units at) enumerators.entry → AreContents units structures.new) }
+        → AreFirstOf (standing_at units at) enumerators → AreContents units structures.new) }
 {
     structures.numbers.insert(at, enumerators)?;
     Ok(())
@@ -155,7 +181,7 @@ fn add_enumeration<'r, 'a>(
     alloc: Global,
     units: &'r Units<'a>,
     at: u32,
-    structures: &mut Structures<'r, 'a>,
+    structures: &mut Structures,
 ) -> Result<(), NoMemory>
     requires { AreContents units.now structures.old }
     ensures { OnOk result (AreContents units.now structures.new) }
@@ -166,10 +192,13 @@ fn add_enumeration<'r, 'a>(
     let Some(size) = short_size(units, standing.entry()) else {
         return Ok(());
     };
-    if standing.inside().len() <= FEW_ENTRIES {
+    let Some(range) = range_inside(units, at, &standing) else {
+        return Ok(());
+    };
+    if range.count <= FEW_ENTRIES {
         return Ok(());
     }
-    let enumerators = Enumerators::of(alloc, &standing, size)?;
+    let enumerators = Enumerators::of(alloc, &standing, range, size)?;
     keep_numbers(structures, at, enumerators)?;
     Ok(())
 }
@@ -181,7 +210,7 @@ fn add_entry<'r, 'a>(
     units: &'r Units<'a>,
     entry: &Entry<'_>,
     behind: &[Entry<'_>],
-    structures: &mut Structures<'r, 'a>,
+    structures: &mut Structures,
 ) -> Result<(), NoMemory>
     requires { AreContents units.now structures.old }
     ensures { OnOk result (AreContents units.now structures.new) }
@@ -204,7 +233,7 @@ fn add_entries<'r, 'a>(
     alloc: Global,
     units: &'r Units<'a>,
     entries: &[Entry<'_>],
-    structures: &mut Structures<'r, 'a>,
+    structures: &mut Structures,
 ) -> Result<(), NoMemory>
     requires { AreContents units.now structures.old }
     ensures { OnOk result (AreContents units.now structures.new) }
@@ -221,7 +250,7 @@ fn add_unit<'r, 'a>(
     alloc: Global,
     units: &'r Units<'a>,
     answer: &UnitAnswer<'_>,
-    structures: &mut Structures<'r, 'a>,
+    structures: &mut Structures,
 ) -> Result<(), NoMemory>
     requires { AreContents units.now structures.old }
     ensures { OnOk result (AreContents units.now structures.new) }
@@ -232,9 +261,25 @@ fn add_unit<'r, 'a>(
     }
 }
 
-impl<'r, 'a> Structures<'r, 'a> {
+impl MemberPositions {
+    /// Which entries of its unit stand in the structure.
+    pub fn range(&self) -> EntryRange
+        ensures { result ≡ self.now.range }
+    {
+        self.range
+    }
+
+    /// The positions among these of what is told of it, in the order of the section.
+    pub fn positions(&self) -> &[u32]
+        ensures { result.now ≡ self.now.positions }
+    {
+        self.positions.as_slice()
+    }
+}
+
+impl Structures {
     /// Those of the units.
-    pub fn of(alloc: Global, units: &'r Units<'a>) -> Result<Self, NoMemory>
+    pub fn of(alloc: Global, units: &Units<'_>) -> Result<Self, NoMemory>
         ensures { IfOk result (AreContents units.now) }
     {
         let mut structures = Structures {
@@ -249,7 +294,7 @@ impl<'r, 'a> Structures<'r, 'a> {
 
     /// What stands in the structure at an offset, where it is known.
     #[tactic(auto, using(crate::proofs::KeptLaws::contents_got))]
-    pub(crate) fn contents(&self, at: u32) -> Option<&Items<Standing<'r, 'a>>>
+    pub(crate) fn contents(&self, at: u32) -> Option<&MemberPositions>
         ensures { (units : List UnitAnswer) → AreContents units self.now
             → IfSome (option_copied result) (AreContentsOf (standing_at units at)) }
     {
@@ -258,7 +303,7 @@ impl<'r, 'a> Structures<'r, 'a> {
 
     /// The enumerators of the enumeration at an offset, where they are known.
     #[tactic(auto, using(crate::proofs::KeptLaws::numbers_got))]
-    pub(crate) fn enumerators(&self, at: u32) -> Option<&Enumerators<'r, 'a>>
+    pub(crate) fn enumerators(&self, at: u32) -> Option<&Enumerators>
         ensures { (units : List UnitAnswer) → AreContents units self.now
             → IfSome (option_copied result) (AreFirstOf (standing_at units at)) }
     {

@@ -1,16 +1,20 @@
 //! Entries of types where they stand.
 
-ghost use Rattle.std.specs.Prelude.{◌≡◌, IfSome, option_copied, Some};
+ghost use Rattle.std.specs.Prelude.{◌≡◌, ◌≤◌, find, IfSome, option_copied, Some};
+ghost use Rattle.dwarf_entries.specs.Tags.{tag_enumerator};
+ghost use Rattle.dwarf_entries.specs.Standing.{entries_inside, inside, children_tagged};
 ghost use Rattle.dwarf_types.specs.Counts.{counts};
 ghost use Rattle.dwarf_types.specs.calls.Subranges.{AreOf};
+ghost use Rattle.dwarf_types.specs.calls.Inside.{AreInside, picked};
 ghost use Rattle.dwarf_types.specs.calls.Contents.{AreContentsOf, contents};
-ghost use Rattle.dwarf_types.specs.calls.Numbers.{AreFirst, AreFirstOf};
+ghost use Rattle.dwarf_types.specs.calls.Numbers.{AreFirst, AreFirstOf, has_key, number_key};
 
 use crate::array_rows::ArrayRows;
+use crate::entry_range::{EntryRange, entry_at, in_range};
 use crate::enumerators::Enumerators;
+use crate::structures::MemberPositions;
 use dwarf_entries::Standing;
 use dwarf_info::Entry;
-use pm_text::Items;
 use std::marker::Model;
 
 /// The entry of a type where it stands, with what is known of its subranges, if it is that of an
@@ -20,8 +24,8 @@ use std::marker::Model;
 pub struct TypeStanding<'r, 'k, 'a> {
     standing: Standing<'r, 'a>,
     rows: Option<&'k ArrayRows>,
-    contents: Option<&'k Items<Standing<'r, 'a>>>,
-    enumerators: Option<&'k Enumerators<'r, 'a>>,
+    contents: Option<&'k MemberPositions>,
+    enumerators: Option<&'k Enumerators>,
 }
 
 impl<'r, 'k, 'a> Model for TypeStanding<'r, 'k, 'a> {
@@ -44,8 +48,8 @@ impl<'r, 'k, 'a> TypeStanding<'r, 'k, 'a> {
     pub(crate) fn new(
         standing: Standing<'r, 'a>,
         rows: Option<&'k ArrayRows>,
-        contents: Option<&'k Items<Standing<'r, 'a>>>,
-        enumerators: Option<&'k Enumerators<'r, 'a>>,
+        contents: Option<&'k MemberPositions>,
+        enumerators: Option<&'k Enumerators>,
     ) -> Self
         requires rows { IfSome (option_copied rows) (AreOf (Some standing)) }
         requires contents { IfSome (option_copied contents) (AreContentsOf (Some standing)) }
@@ -99,16 +103,29 @@ impl<'r, 'k, 'a> TypeStanding<'r, 'k, 'a> {
         }
     }
 
-    /// The members and variant parts among its children, where they are known.
-    pub fn contents(&self) -> Option<&'k Items<Standing<'r, 'a>>>
-        ensures { IfSome (option_copied result) (λ xs. xs ≡ contents self.now) }
+    /// The entries in it, where it is known which of its unit's these are. It takes no time by them.
+    pub fn inside_at(&self, range: EntryRange) -> &'r [Entry<'a>]
+        requires { AreInside self.now range }
+        ensures { result.now ≡ entries_inside self.now }
+    {
+        in_range(self.standing.unit().entries.as_slice(), range)
+    }
+
+    /// The members and variant parts among its children, where they are known: their positions among
+    /// the entries in it.
+    pub fn contents(&self) -> Option<&'k MemberPositions>
+        ensures range { IfSome (option_copied result) (λ m. AreInside self.now m.range) }
+        ensures told { IfSome (option_copied result)
+            (λ m. picked m.positions (inside self.now) ≡ contents self.now) }
     {
         self.contents
     }
+
     /// The first of its enumerators of each number, where they are known of this size.
-    #[tactic(auto, using(crate::proofs::KeptLaws::first_here))]
-    pub fn enumerators_of(&self, size: u64) -> Option<&'k Enumerators<'r, 'a>>
+    #[tactic(auto, using(crate::proofs::KeptLaws::first_range, crate::proofs::KeptLaws::first_here))]
+    pub fn enumerators_of(&self, size: u64) -> Option<&'k Enumerators>
         ensures size { IfSome (option_copied result) (λ e. e.size ≡ size) }
+        ensures range { IfSome (option_copied result) (λ e. AreInside self.now e.range) }
         ensures first { IfSome (option_copied result) (AreFirst self.now) }
     {
         let enumerators = self.enumerators?;
@@ -116,6 +133,21 @@ impl<'r, 'k, 'a> TypeStanding<'r, 'k, 'a> {
             Some(enumerators)
         } else {
             None
+        }
+    }
+
+    /// The first of its enumerators of a number, by what is known of them.
+    pub fn enumerator_by(&self, known: &Enumerators, number: i128) -> Option<&'r Entry<'a>>
+        requires size { known.now.size ≤ 8 }
+        requires range { AreInside self.now known.now.range }
+        requires first { AreFirst self.now known.now }
+        ensures { option_copied result
+            ≡ find (has_key known.now.size (number_key known.now.size number))
+            (children_tagged tag_enumerator self.now) }
+    {
+        match known.first(number) {
+            Some(position) => entry_at(self.inside_at(known.range()), position),
+            None => None,
         }
     }
 }

@@ -9,11 +9,10 @@ ghost use Rattle.dwarf_types.specs.calls.Numbers.{AreFirstOf};
 
 use crate::arrays::Arrays;
 use crate::enumerators::Enumerators;
-use crate::structures::Structures;
+use crate::structures::{MemberPositions, Structures};
 use crate::type_standing::TypeStanding;
 use dwarf_entries::Standing;
 use dwarf_info::Units;
-use pm_text::Items;
 use std::marker::Model;
 
 /// The units of a section, with what is known of their arrays, structures and enumerations.
@@ -22,14 +21,11 @@ use std::marker::Model;
 pub struct TypedUnits<'r, 'k, 'a> {
     units: &'r Units<'a>,
     arrays: &'k Arrays,
-    structures: Option<&'k Structures<'r, 'a>>,
+    structures: Option<&'k Structures>,
 }
 
 /// What is known to stand in the structure at an offset.
-fn contents_at<'r, 'k, 'a>(
-    structures: Option<&'k Structures<'r, 'a>>,
-    at: u32,
-) -> Option<&'k Items<Standing<'r, 'a>>>
+fn contents_at<'k>(structures: Option<&'k Structures>, at: u32) -> Option<&'k MemberPositions>
     ensures { (units : List UnitAnswer)
         → IfSome (option_copied structures.entry) (AreContents units)
         → IfSome (option_copied result) (AreContentsOf (standing_at units at)) }
@@ -41,10 +37,7 @@ fn contents_at<'r, 'k, 'a>(
 }
 
 /// The enumerators that are known of the enumeration at an offset.
-fn enumerators_at<'r, 'k, 'a>(
-    structures: Option<&'k Structures<'r, 'a>>,
-    at: u32,
-) -> Option<&'k Enumerators<'r, 'a>>
+fn enumerators_at<'k>(structures: Option<&'k Structures>, at: u32) -> Option<&'k Enumerators>
     ensures { (units : List UnitAnswer)
         → IfSome (option_copied structures.entry) (AreContents units)
         → IfSome (option_copied result) (AreFirstOf (standing_at units at)) }
@@ -85,7 +78,7 @@ impl<'r, 'k, 'a> TypedUnits<'r, 'k, 'a> {
     pub fn with_structures(
         units: &'r Units<'a>,
         arrays: &'k Arrays,
-        structures: &'k Structures<'r, 'a>,
+        structures: &'k Structures,
     ) -> Self
         requires arrays { AreKnown units.now arrays.now }
         requires structures { AreContents units.now structures.now }

@@ -1,16 +1,18 @@
 -- Variants: the numbers in lists, and what stands in a structure.
-use Rattle.std.proofs.Common.{◌≡◌, ℕ, zero, suc, ◌-◌, ◌*◌, ◌<◌, ◌≤◌, Bool, true, false, List, [], ◌∷◌, ◌++◌, length, Ok, Err, refl, sym, ap, ◌∙◌, append_assoc, cond, arith}
-use Rattle.std.specs.Prelude.{◌&&◌, ◌||◌, nat_le, ℤ, filter, if◌then◌else◌}
-use Rattle.std.specs.List.{flat_map}
+use Rattle.std.proofs.Common.{◌≡◌, ℕ, zero, suc, ◌-◌, ◌*◌, ◌<◌, ◌≤◌, Bool, true, false, List, [], ◌∷◌, ◌++◌, length, Option, Some, None, Ok, Err, refl, sym, ap, ◌∙◌, append_assoc, cond, arith}
+use Rattle.std.specs.Prelude.{◌&&◌, ◌||◌, nat_le, ℤ, filter, slice_get, if◌then◌else◌}
+use Rattle.std.specs.List.{flat_map, cons_option}
 use Rattle.std.proofs.lemmas.List.{append-nil}
 use Rattle.std.proofs.lemmas.Bool.{and_parts}
 use Rattle.std.proofs.lemmas.Bool.Decides.{nat_tests}
 use Rattle.dwarf_info.specs.declared.entry.Entry.{Entry}
+use Rattle.dwarf_info.specs.declared.entry.Unit.{Unit as UnitTree}
 use Rattle.dwarf_info.specs.declared.entry.UnitAnswer.{UnitAnswer}
 use Rattle.dwarf_entries.specs.Origins.{longest_chain}
-use Rattle.dwarf_entries.specs.Standing.{Standing, standing_in, inside, is_child}
+use Rattle.dwarf_entries.specs.Standing.{Standing, standing_in, entries_inside, inside, is_child}
 use Rattle.dwarf_entries.specs.Tags.{tag_member}
 use Rattle.dwarf_types.specs.Structures.{tag_variant_part}
+use Rattle.dwarf_types.specs.calls.Inside.{picked}
 use Rattle.dwarf_types.specs.calls.Contents.{stands_in, contents}
 use Rattle.dwarf_types.specs.Types.{class_at}
 use Rattle.wasm_bytes.specs.Place.{Place as Where}
@@ -110,14 +112,37 @@ other_child : (units : List UnitAnswer) (m : Recorded) (p : Place) (content : St
 other_child units m p content depth x e =
     other_by (is_child depth tag_member x.entry) (is_child depth tag_variant_part x.entry) (Member x) (variant_items content (variant_of units m p x)) e
 
-pub known_items : (units : List UnitAnswer) (m : Recorded) (p : Place) (s : Standing) (e : Entry) (further : ℕ) (known xs : List Standing) (old new : List Item)
-    → known ≡ contents s → e ≡ s.entry → xs ≡ known → further ≡ longest_chain - 1
-    → new ≡ old ++ flat_map (child_items units m p (items units m p further) e.depth) xs → new ≡ old ++ items units m p longest_chain s
-known_items units m p s e further known xs old new are is same less pushed =
+-- a child at a position, if it is there
+pub none_placed : (f : Standing → List Item) (old : List Item) (k : ℕ) (xs : List Standing) → None ≡ slice_get xs k → old ≡ old ++ flat_map f (picked (k ∷ []) xs)
+none_placed f old k xs none = sym (append-nil old) ∙ ap (λ (o : Option Standing). old ++ flat_map f (cons_option o [])) none
+
+pub one_placed : (f : Standing → List Item) (old new : List Item) (k : ℕ) (xs : List Standing) (x : Standing) → Some x ≡ slice_get xs k → new ≡ old ++ f x
+    → new ≡ old ++ flat_map f (picked (k ∷ []) xs)
+one_placed f old new k xs x there is =
+    is ∙ ap (λ (ys : List Item). old ++ ys) (sym (append-nil (f x))) ∙ ap (λ (o : Option Standing). old ++ flat_map f (cons_option o [])) there
+
+-- the items of one position behind those before it
+joined : (f : Standing → List Item) (o : Option Standing) (xs : List Standing) → flat_map f (cons_option o xs) ≡ flat_map f (cons_option o []) ++ flat_map f xs
+joined f None xs = refl
+joined f (Some x) xs = ap (λ (ys : List Item). ys ++ flat_map f xs) (sym (append-nil (f x)))
+
+pub next_placed : (f : Standing → List Item) (total mid new : List Item) (k : ℕ) (ks : List ℕ) (xs : List Standing) → total ≡ mid ++ flat_map f (picked (k ∷ ks) xs)
+    → new ≡ mid ++ flat_map f (picked (k ∷ []) xs) → total ≡ new ++ flat_map f (picked ks xs)
+next_placed f total mid new k ks xs is here =
+    is ∙ ap (λ (ys : List Item). mid ++ ys) (joined f (slice_get xs k) (picked ks xs))
+    ∙ sym (append_assoc mid (flat_map f (picked (k ∷ []) xs)) (flat_map f (picked ks xs))) ∙ ap (λ (t : List Item). t ++ flat_map f (picked ks xs)) (sym here)
+
+pub known_items : (units : List UnitAnswer) (m : Recorded) (p : Place) (s t : Standing) (e : Entry) (u : UnitTree) (es : List Entry) (further : ℕ) (positions ks : List ℕ) (old new : List Item)
+    → picked positions (inside s) ≡ contents s → e ≡ s.entry → t ≡ s → u ≡ t.unit → es ≡ entries_inside s → ks ≡ positions → further ≡ longest_chain - 1
+    → new ≡ old ++ flat_map (child_items units m p (items units m p further) e.depth) (picked ks (standing_in u es)) → new ≡ old ++ items units m p longest_chain s
+known_items units m p s t e u es further positions ks old new told is alike unit those same less pushed =
     let some : 0 < longest_chain = omega arith in
     let f : Standing → List Item = child_items units m p (items units m p (longest_chain - 1)) s.entry.depth in
-    pushed ∙ ap (λ (n : ℕ). old ++ flat_map (child_items units m p (items units m p n) e.depth) xs) less
-    ∙ ap (λ (x : Entry). old ++ flat_map (child_items units m p (items units m p (longest_chain - 1)) x.depth) xs) is
-    ∙ ap (λ (ys : List Standing). old ++ flat_map f ys) (same ∙ are)
+    pushed ∙ ap (λ (n : ℕ). old ++ flat_map (child_items units m p (items units m p n) e.depth) (picked ks (standing_in u es))) less
+    ∙ ap (λ (x : Entry). old ++ flat_map (child_items units m p (items units m p (longest_chain - 1)) x.depth) (picked ks (standing_in u es))) is
+    ∙ ap (λ (x : UnitTree). old ++ flat_map f (picked ks (standing_in x es))) (unit ∙ ap (λ (x : Standing). x.unit) alike)
+    ∙ ap (λ (ys : List Entry). old ++ flat_map f (picked ks (standing_in s.unit ys))) those
+    ∙ ap (λ (js : List ℕ). old ++ flat_map f (picked js (inside s))) same
+    ∙ ap (λ (ys : List Standing). old ++ flat_map f ys) told
     ∙ ap (λ (ys : List Item). old ++ ys)
     (filtered f (stands_in s.entry.depth) (inside s) (λ x none. other_child units m p (items units m p (longest_chain - 1)) s.entry.depth x none) ∙ sym (more_items units m p longest_chain s some))

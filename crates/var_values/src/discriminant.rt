@@ -1,7 +1,7 @@
 //! Discriminants of variant parts.
 
 /// The number that a discriminant is.
-#[derive(Clone, Copy, Debug, Drop)]
+#[derive(Clone, Copy, Drop)]
 pub struct Discriminant {
     /// In bytes.
     pub size: u64,

@@ -3,7 +3,7 @@
 use pm_text::Items;
 
 /// A subrange of an array: rows, or the innermost elements.
-#[derive(Clone, Copy, Debug, Drop)]
+#[derive(Clone, Copy, Drop)]
 pub struct Level {
     pub count: u128,
     /// The size of one of them in bytes.
@@ -11,7 +11,7 @@ pub struct Level {
 }
 
 /// A row of which some elements are written.
-#[derive(Clone, Copy, Debug, Drop)]
+#[derive(Clone, Copy, Drop)]
 pub struct OpenRow {
     pub level: Level,
     /// In bytes from the start of the array on.
@@ -21,7 +21,7 @@ pub struct OpenRow {
 }
 
 /// What is kept of a row of which more elements are to be begun.
-#[derive(Clone, Copy, Debug, Drop)]
+#[derive(Clone, Copy, Drop)]
 pub struct BegunRow {
     /// The number of its subrange.
     pub number: usize,
@@ -32,7 +32,7 @@ pub struct BegunRow {
 }
 
 /// What a step through the rows of an array came to.
-#[derive(Clone, Copy, Debug, Drop)]
+#[derive(Clone, Copy, Drop)]
 pub enum Step {
     /// There are more steps.
     On,

@@ -195,7 +195,7 @@ fn first_enumerator<'r, 'k, 'a>(
         (children_tagged tag_enumerator standing.now) }
 {
     if let Some(known) = standing.enumerators_of(size) {
-        return known.first(value);
+        return standing.enumerator_by(known, value);
     }
     enumerator(
         standing.standing().inside(),

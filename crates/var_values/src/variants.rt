@@ -1,12 +1,14 @@
 //! The variant that a discriminant chooses, and what stands in a structure (DWARF 4 section 5.5.9).
 
 ghost use Rattle.std.specs.Prelude.{◌≡◌, ◌≤◌, ◌<◌, ◌^◌, ◌&&◌, ◌++◌, true, nat_le, Some, Ok, ok_or, unwrap_or, IfSome};
-ghost use Rattle.std.specs.Prelude.{IfOk, OnOk, flat_map};
+ghost use Rattle.std.specs.Prelude.{◌∷◌, [], IfOk, OnOk, flat_map};
 ghost use Rattle.std.specs.Option.{is_none};
 ghost use Rattle.dwarf_info.specs.Attributes.{as_block, attribute as the_attribute, valued};
 ghost use Rattle.dwarf_entries.specs.Origins.{longest_chain};
+ghost use Rattle.dwarf_entries.specs.Standing.{standing_in};
 ghost use Rattle.dwarf_types.specs.Types.{behind, class_at, type_of as the_type};
 ghost use Rattle.dwarf_types.specs.Sizes.{type_size as the_size};
+ghost use Rattle.dwarf_types.specs.calls.Inside.{picked};
 ghost use Rattle.dwarf_types.specs.declared.behind.Behind.TheVariants as behinds;
 ghost use Rattle.var_values.specs.declared.mark.Mark.TheVariants.{OptimisedOut};
 ghost use Rattle.var_values.specs.Members.{part_at as the_place, unplaced};
@@ -32,9 +34,10 @@ use dwarf_entries::{
     LONGEST_CHAIN, Standing, attribute, block, is_child, number, reference, standing_at,
 };
 use dwarf_expr::FrameView;
-use dwarf_info::{Attributes, Entry};
+use dwarf_info::{Attributes, Entry, Unit};
 use dwarf_types::{
-    Behind, Class, TypeStanding, TypedUnits, VARIANT_PART, class_of, resolved, type_of, type_size,
+    Behind, Class, TypeStanding, TypedUnits, VARIANT_PART, class_of, resolved, standing_among,
+    type_of, type_size,
 };
 use pm_text::Items;
 use std::alloc::Global;
@@ -383,24 +386,52 @@ fn push_items<'r, 'a>(
     Ok(())
 }
 
-/// Appends what stands in the places of these children of an entry of this depth.
-#[tactic(auto, using(crate::proofs::VariantLaws::one_pushed))]
-fn push_children<'r, 'a>(
+/// Appends what stands in the place of the child at a position among entries in one of this depth.
+#[tactic(auto, using(crate::proofs::VariantLaws::none_placed, crate::proofs::VariantLaws::one_placed))]
+fn push_at<'r, 'a>(
     items: &mut Items<Item<'r, 'a>>,
     structure: &Structure<'_, 'r, '_, '_, '_, '_, '_, 'a>,
     further: u32,
     depth: u32,
-    children: &[Standing<'r, 'a>],
+    unit: &'r Unit<'a>,
+    inside: &'r [Entry<'a>],
+    position: u32,
 ) -> Result<(), NoMemory>
     requires near { IsNear 1 structure.now.place.now.offset }
     ensures { OnOk result (items.new ≡ items.old ++ flat_map (variants.child_items
         structure.now.units.now structure.now.view.now.memory structure.now.place.now
         (variants.items structure.now.units.now structure.now.view.now.memory
-        structure.now.place.now further) depth) children.now) }
+        structure.now.place.now further) depth)
+        (picked (position ∷ []) (standing_in unit.now inside.now))) }
 {
-    let mut left = children;
-    'children: while let [child, behind @ ..] = left {
-        push_child(items, structure, further, depth, child.copied())?;
+    match standing_among(unit, inside, position) {
+        Some(child) => push_child(items, structure, further, depth, child),
+        None => Ok(()),
+    }
+}
+
+/// Appends what stands in the places of the children at these positions among entries in one of this
+/// depth.
+#[tactic(auto, using(crate::proofs::VariantLaws::next_placed))]
+fn push_children<'r, 'a>(
+    items: &mut Items<Item<'r, 'a>>,
+    structure: &Structure<'_, 'r, '_, '_, '_, '_, '_, 'a>,
+    further: u32,
+    depth: u32,
+    unit: &'r Unit<'a>,
+    inside: &'r [Entry<'a>],
+    positions: &[u32],
+) -> Result<(), NoMemory>
+    requires near { IsNear 1 structure.now.place.now.offset }
+    ensures { OnOk result (items.new ≡ items.old ++ flat_map (variants.child_items
+        structure.now.units.now structure.now.view.now.memory structure.now.place.now
+        (variants.items structure.now.units.now structure.now.view.now.memory
+        structure.now.place.now further) depth)
+        (picked positions.now (standing_in unit.now inside.now))) }
+{
+    let mut left = positions;
+    'positions: while let [position, behind @ ..] = left {
+        push_at(items, structure, further, depth, unit, inside, *position)?;
         left = behind;
     }
     Ok(())
@@ -408,7 +439,6 @@ fn push_children<'r, 'a>(
 
 /// Appends what stands in a structure. Of its children only members and variant parts are looked
 /// at, where it is known which these are.
-#[tactic(auto, using(crate::proofs::VariantLaws::known_items))]
 fn push_standing<'r, 'a>(
     items: &mut Items<Item<'r, 'a>>,
     structure: &Structure<'_, 'r, '_, '_, '_, '_, '_, 'a>,
@@ -427,7 +457,9 @@ fn push_standing<'r, 'a>(
         structure,
         LONGEST_CHAIN - 1,
         depth,
-        contents.as_slice(),
+        standing.standing().unit(),
+        standing.inside_at(contents.range()),
+        contents.positions(),
     )?;
     Ok(())
 }

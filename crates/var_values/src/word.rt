@@ -40,7 +40,7 @@ fn holding(bits: Bits) -> u32
 }
 
 /// A number of up to 17 bytes: the lowest one, and those above it.
-#[derive(Clone, Copy, Debug, Drop)]
+#[derive(Clone, Copy, Drop)]
 struct Wide {
     first: u8,
     rest: u128,
