@@ -1,4 +1,5 @@
 mod Boxed
+mod Changed
 pub mod Contents
 mod Instructions
 mod Making

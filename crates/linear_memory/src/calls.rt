@@ -9,7 +9,7 @@ use causes::NoMemory;
 use std::alloc::Global;
 
 /// How many bytes a load or a store moves.
-#[derive(Clone, Copy, Debug, PartialEq, Eq)]
+#[derive(Clone, Copy)]
 pub enum Width {
     One,
     Two,
@@ -32,7 +32,7 @@ impl Width {
 }
 
 /// A call of a memory. Places and lengths are in bytes, counts and indices in pages.
-#[derive(Debug, Drop)]
+#[derive(Drop)]
 pub enum Call {
     Size,
     Load { at: u64, width: Width },
@@ -47,7 +47,7 @@ pub enum Call {
 }
 
 /// What a call answers.
-#[derive(Debug, Drop)]
+#[derive(Drop)]
 pub enum Answer {
     Size(u32),
     Loaded(Option<u64>),

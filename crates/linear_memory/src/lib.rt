@@ -3,6 +3,7 @@
 #![tactic(auto)]
 
 mod calls;
+mod changes;
 mod page;
 mod paged;
 mod raw;
@@ -22,7 +23,7 @@ pub enum StoreFault {
 }
 
 /// What a growth did.
-#[derive(Clone, Copy, Debug, PartialEq, Eq)]
+#[derive(Clone, Copy, PartialEq, Eq)]
 pub enum GrowAnswer {
     /// The memory has the new pages. The number is its size in pages before.
     Grown(u32),

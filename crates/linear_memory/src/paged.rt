@@ -6,11 +6,9 @@ ghost use Rattle.linear_memory.specs.Memory.{page_size, pages, zeroed, window, t
 ghost use Rattle.linear_memory.specs.calls.Paged.{IsWidth, IsMade, AllMade, Makes};
 ghost use Rattle.linear_memory.specs.calls.Growth.{Grows};
 
+use crate::changes::{copy_bytes, fill_bytes, put_bytes};
 use crate::page::Page;
-use crate::table::{
-    add_pages, bytes_at, copy_table, fill_all, load_in, make_all, move_all, put_all, read_all,
-    store_in,
-};
+use crate::table::{add_pages, bytes_at, copy_table, load_in, read_all, store_in};
 use crate::words::read_word;
 use crate::{GrowAnswer, StoreFault};
 use causes::NoMemory;
@@ -110,7 +108,6 @@ impl Memory {
 
     /// Writes the `width` lowest bytes of a number from `at` on, the lowest first (Core 4.4.4,
     /// `store`).
-    #[tactic(auto, using(crate::proofs::Contents::length_of_contents))]
     #[inline(always)]
     pub fn store(&mut self, at: u64, width: u32, value: u64) -> Result<(), StoreFault>
         requires { IsWidth width }
@@ -128,7 +125,6 @@ impl Memory {
     }
 
     /// Writes bytes from `at` on, all of them or none.
-    #[tactic(auto, using(crate::proofs::Contents::length_of_contents))]
     #[inline(never)]
     pub fn write(&mut self, at: u64, bytes: &[u8]) -> Result<(), StoreFault>
         ensures out { (result ≡ Err StoreFault.Out) ↔
@@ -139,20 +135,10 @@ impl Memory {
         ensures takes { AllMade self.old.made at (length bytes.now)
             → ¬ (result ≡ Err StoreFault.NoMemory) }
     {
-        let end = 65536 * self.pages.len() as u64;
-        let len = bytes.len() as u64;
-        if at > end || len > end - at {
-            return Err(StoreFault::Out);
-        }
-        if !make_all(&mut self.pages, self.alloc, at as usize, len as usize) {
-            return Err(StoreFault::NoMemory);
-        }
-        put_all(&mut self.pages, at as usize, bytes);
-        Ok(())
+        put_bytes(&mut self.pages, self.alloc, at, bytes)
     }
 
     /// Sets `len` bytes from `at` on (Core 2.0 4.4.7, `memory.fill`).
-    #[tactic(auto, using(crate::proofs::Contents::length_of_contents))]
     pub fn fill(&mut self, at: u64, byte: u8, len: u64) -> Result<(), StoreFault>
         ensures out { (result ≡ Err StoreFault.Out) ↔ (length self.old.memory.bytes < at + len) }
         ensures memory { OnOk result (fill self.old.memory at byte len ≡ Some self.new.memory) }
@@ -160,20 +146,11 @@ impl Memory {
         ensures refused { OnErr result (self.new ≡ self.old) }
         ensures takes { AllMade self.old.made at len → ¬ (result ≡ Err StoreFault.NoMemory) }
     {
-        let end = 65536 * self.pages.len() as u64;
-        if at > end || len > end - at {
-            return Err(StoreFault::Out);
-        }
-        if !make_all(&mut self.pages, self.alloc, at as usize, len as usize) {
-            return Err(StoreFault::NoMemory);
-        }
-        fill_all(&mut self.pages, at as usize, byte, len as usize);
-        Ok(())
+        fill_bytes(&mut self.pages, self.alloc, at, byte, len)
     }
 
     /// Copies `len` bytes from `from` on, as they were before the call, to `to` (Core 2.0 4.4.7,
     /// `memory.copy`).
-    #[tactic(auto, using(crate::proofs::Contents::length_of_contents))]
     pub fn copy(&mut self, to: u64, from: u64, len: u64) -> Result<(), StoreFault>
         ensures out { (result ≡ Err StoreFault.Out) ↔
             ((length self.old.memory.bytes < to + len)
@@ -183,15 +160,7 @@ impl Memory {
         ensures refused { OnErr result (self.new ≡ self.old) }
         ensures takes { AllMade self.old.made to len → ¬ (result ≡ Err StoreFault.NoMemory) }
     {
-        let end = 65536 * self.pages.len() as u64;
-        if to > end || len > end - to || from > end || len > end - from {
-            return Err(StoreFault::Out);
-        }
-        if !make_all(&mut self.pages, self.alloc, to as usize, len as usize) {
-            return Err(StoreFault::NoMemory);
-        }
-        move_all(&mut self.pages, to as usize, from as usize, len as usize);
-        Ok(())
+        copy_bytes(&mut self.pages, self.alloc, to, from, len)
     }
 
     /// Adds pages of zeros, none of them made (Core 4.4.4, `memory.grow`).

@@ -1,13 +1,21 @@
-use Rattle.std.proofs.Common.{◌+◌, ◌≤◌, length, arith}
-use Rattle.linear_memory.specs.inner.Table.{contents}
-use Rattle.linear_memory.proofs.Contents.{length-contents}
-use Rattle.linear_memory.proofs.Instructions.{copy_twice}
+use Rattle.std.proofs.Common.{ap, sym, subst, arith, length, ◌+◌, ◌≤◌, ◌<◌, ◌⊎◌}
+use Rattle.linear_memory.specs.Memory.{splice, window}
+use Rattle.linear_memory.specs.inner.Table.{contents, AllWhole}
+use Rattle.linear_memory.proofs.Changed.{invariant_after, copy_told}
 use Rattle.linear_memory.proofs.paged.Memory.copy.Goals as goal
 
-pub returns-clause-memory : goal.returns-clause-memory
-returns-clause-memory c =
-    let items = c.self.inside.pages.items in
-    let room : c.args.to + c.args.len ≤ length (contents items) = omega (arith, c.if-to-end.false, c.if-len-end.false, c.len.ensures, c.self.inside.pages.ok.0, length-contents items c.self.invariant.0) in
-    let inside : c.args.from + c.args.len ≤ length (contents items) = omega (arith, c.if-from-end.false, c.if-len-end-2.false, c.len.ensures, c.self.inside.pages.ok.0, length-contents items c.self.invariant.0) in
-    copy_twice c.self.inside.pages.len items c.deref_mut.result.now c.make_all.new.pages c.deref_mut-2.result.now c.move_all.new.pages c.self.inside.pages.ok.0 c.deref_mut.ensures.value c.make_all.auto.pages c.deref_mut-2.ensures.value c.move_all.auto.pages c.make_all.ensures.contents
-    c.self.inside.max c.args.to c.args.from c.args.len c.args.self.now c.move_all.ensures.contents inside room c.self.view_is
+pub copy_bytes-requires-clause-whole : goal.copy_bytes-requires-clause-whole
+copy_bytes-requires-clause-whole c = subst AllWhole (sym c.deref_mut.ensures.value) c.self.invariant.0
+
+pub copy_bytes-requires-clause-small : goal.copy_bytes-requires-clause-small
+copy_bytes-requires-clause-small c = omega (arith, ap length c.deref_mut.ensures.value, c.self.invariant.1, c.self.invariant.2)
+
+pub invariant_of-self : goal.invariant_of-self
+invariant_of-self c = invariant_after c.self.inside.pages.len c.self.inside.pages.items c.deref_mut.result.now c.copy_bytes.new.pages c.self.inside.max c.args.self.now c.self.inside.pages.ok.0 c.deref_mut.ensures.value c.copy_bytes.auto.pages c.copy_bytes.result
+    ((c.args.to + c.args.len ≤ length (contents c.deref_mut.result.now)) × (c.args.from + c.args.len ≤ length (contents c.deref_mut.result.now))) ((length (contents c.deref_mut.result.now) < c.args.to + c.args.len) ⊎ (length (contents c.deref_mut.result.now) < c.args.from + c.args.len)) c.args.to c.args.len (splice (contents c.deref_mut.result.now) c.args.to (window (contents c.deref_mut.result.now) c.args.from c.args.len)) c.copy_bytes.ensures c.self.invariant.0 c.self.invariant.1 c.self.invariant.2
+
+pub returns : goal.returns
+returns c =
+    let w = copy_told c.self.inside.pages.len c.self.inside.pages.items c.deref_mut.result.now c.copy_bytes.new.pages c.self.inside.max c.args.self.now c.self.inside.pages.ok.0 c.deref_mut.ensures.value c.copy_bytes.auto.pages
+    c.copy_bytes.result c.args.to c.args.from c.args.len c.self.view_is c.copy_bytes.ensures in
+    record { out = w.0; memory = w.1; made = w.2; refused = w.3; takes = w.4 }
