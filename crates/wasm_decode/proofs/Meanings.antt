@@ -5,6 +5,7 @@ use Rattle.std.proofs.lemmas.Bool.{ltb-true, ltb-false, lt-ltb, le-ltb}
 use Rattle.wasm_syntax.specs.declared.quantity.Quantity.{Quantity}
 use Rattle.wasm_syntax.specs.declared.quantity.Quantity.TheVariants.{ModuleBytes, Locals, Nesting, Table, Memory}
 use Rattle.wasm_syntax.specs.declared.module.ModuleParts.{ModuleParts}
+use Rattle.wasm_syntax.specs.declared.parts.Import.{Import}
 use Rattle.wasm_syntax.specs.Quantity.{greatest}
 use Rattle.wasm_syntax.specs.Sizes.{nesting}
 use Rattle.wasm_bytes.specs.Reading.{whole}
@@ -15,7 +16,7 @@ use Rattle.wasm_format.proofs.ExactSections.{module_found, module_read}
 use Rattle.wasm_format.proofs.StopsSections.{module_stop, module_stopped}
 use Rattle.wasm_decode.specs.declared.fault.DecodeFault.{DecodeFault}
 use Rattle.wasm_decode.specs.declared.fault.DecodeFault.TheVariants.{Malformed, Float, ImportKind, Limit}
-use Rattle.wasm_decode.specs.Decode.{first_other, module_of, all_locals, first_over, too_much, at_float, at_import, refusal, judged, judged_read, module_from, Answers}
+use Rattle.wasm_decode.specs.Decode.{functions_of, first_other, module_of, all_locals, first_over, too_much, at_float, at_import, refusal, judged, judged_read, module_from, Answers}
 use Rattle.wasm_decode.specs.calls.Meaning.{IsSpelled, IsModuleOf, BreaksAt, HasFloatAt, HasOtherImport, PassesLimit, Exactly}
 use Rattle.wasm_leb.proofs.Tools.{chosen}
 use Rattle.wasm_bytes.specs.Refusals.{◌orelse◌, unless_refused}
@@ -165,6 +166,10 @@ judged_ok s m e = by (refusal s) e where
   by : (o : Option DecodeFault) → known m ≡ unless_refused o (module_of s) → m ≡ module_of s
   by None e = cc
   by (Some f) e = absurd cc
+
+pub kept_is : (s : SpelledModule) (parts : ModuleParts) (imports : List Import) → parts ≡ s.parts → refusal s ≡ None → imports ≡ functions_of s.imports → known (record parts { imports = imports }) ≡ judged s
+unfolding module_of
+kept_is s parts imports same plain is = rw (same, plain, is) refl
 
 -- ---- each answer
 

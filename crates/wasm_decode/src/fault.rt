@@ -3,7 +3,7 @@
 use wasm_syntax::Quantity;
 
 /// Why a module is not read.
-#[derive(Clone, Copy, Debug, PartialEq, Eq)]
+#[derive(Clone, Copy, PartialEq, Eq)]
 pub enum DecodeFault {
     NoMemory,
     /// The item at this offset, in bytes from the first one, has no reading.

@@ -1,10 +1,12 @@
 //! Types, imports, exports and locals (Core 5.3 and 5.5).
 
-ghost use Rattle.std.specs.Prelude.{◌≡◌, OnOk};
+ghost use Rattle.std.specs.Prelude.{◌≡◌, ℕ, List, OnOk};
+ghost use Rattle.wasm_bytes.specs.Reading.{choose};
+ghost use Rattle.wasm_decode.specs.calls.Imports.{import_of, named};
 ghost use Rattle.wasm_bytes.specs.Place.{Moves};
 ghost use Rattle.wasm_bytes.specs.calls.Answers.{Reads, Gives};
 ghost use Rattle.wasm_format.specs.Form.{valtype_item, functype_item, limits_item, table_item, mutability_item};
-ghost use Rattle.wasm_format.specs.Form.{globaltype_item, import_item, export_kind_item, export_item, group_step};
+ghost use Rattle.wasm_format.specs.Form.{globaltype_item, import_item, import_behind, export_kind_item, export_item, group_step};
 ghost use Rattle.wasm_format.specs.Form.{locals_item};
 
 use crate::input::Input;
@@ -154,52 +156,80 @@ pub fn global_type(input: &mut Input<'_>) -> Result<(Noted<ValType>, bool), Malf
     Ok((vtype, mutable))
 }
 
+/// What an import says behind its names, of which only the type of a function is kept.
+#[derive(Clone, Copy)]
+pub enum ImportTail {
+    Function(u32),
+    Table,
+    Memory,
+    /// With the offset of its float type.
+    Global(Option<usize>),
+}
+
+#[tactic(auto, unfolding(wasm_bytes::specs::Reading::choose))]
+fn import_tail(input: &mut Input<'_>) -> Result<ImportTail, Malformed>
+    ensures item { (names : List ℕ × List ℕ) → Reads (named names result) input.new
+        (choose (import_behind names) input.old) }
+    ensures moves { OnOk result (Moves input.old input.new) }
+{
+    let at = input.at() as usize;
+    match input.byte()? {
+        0x00 => Ok(ImportTail::Function(input.u32()?)),
+        0x01 => {
+            table(input)?;
+            Ok(ImportTail::Table)
+        }
+        0x02 => {
+            limits(input)?;
+            Ok(ImportTail::Memory)
+        }
+        0x03 => {
+            let (vtype, _) = global_type(input)?;
+            Ok(ImportTail::Global(vtype.float))
+        }
+        _ => Err(Malformed { at }),
+    }
+}
+
+fn import_of(from: Text, name: Text, tail: ImportTail) -> Noted<Imported>
+    ensures { result ≡ import_of (from, name) tail }
+{
+    match tail {
+        ImportTail::Function(ftype) => Noted {
+            value: Imported::Function(Import {
+                module: from,
+                name,
+                ftype,
+            }),
+            float: None,
+        },
+        ImportTail::Table => Noted {
+            value: Imported::Table,
+            float: None,
+        },
+        ImportTail::Memory => Noted {
+            value: Imported::Memory,
+            float: None,
+        },
+        ImportTail::Global(float) => Noted {
+            value: Imported::Global,
+            float,
+        },
+    }
+}
+
 /// An import (Core 5.5.5).
 impl<'a> Noting<Input<'a>> for Imported {
     type Value = Imported;
 
     ghost item = { import_item };
 
-    #[tactic(auto, unfolding(wasm_bytes::specs::Reading::choose, wasm_format::specs::Form::import_item))]
+    #[tactic(auto, unfolding(wasm_format::specs::Form::import_item))]
     fn read(alloc: Global, input: &mut Input<'a>) -> Result<Noted<Imported>, ItemFault> {
-        let module = input.item::<Text>(alloc)?;
+        let from = input.item::<Text>(alloc)?;
         let name = input.item::<Text>(alloc)?;
-        let at = input.at() as usize;
-        match input.byte()? {
-            0x00 => {
-                let ftype = input.u32()?;
-                Ok(Noted {
-                    value: Imported::Function(Import {
-                        module,
-                        name,
-                        ftype,
-                    }),
-                    float: None,
-                })
-            }
-            0x01 => {
-                table(input)?;
-                Ok(Noted {
-                    value: Imported::Table,
-                    float: None,
-                })
-            }
-            0x02 => {
-                limits(input)?;
-                Ok(Noted {
-                    value: Imported::Memory,
-                    float: None,
-                })
-            }
-            0x03 => {
-                let (vtype, _) = global_type(input)?;
-                Ok(Noted {
-                    value: Imported::Global,
-                    float: vtype.float,
-                })
-            }
-            _ => Err(ItemFault::At(at)),
-        }
+        let tail = import_tail(input)?;
+        Ok(import_of(from, name, tail))
     }
 }
 

@@ -1,11 +1,11 @@
 //! A whole module from its bytes.
 
-ghost use Rattle.std.specs.Prelude.{◌≡◌, ◌<◌, ◌^◌, ℕ, length, IfOk};
+ghost use Rattle.std.specs.Prelude.{◌≡◌, ◌<◌, ◌^◌, ℕ, length, None, Err, IfOk, IfErr, OnOk};
 ghost use Rattle.wasm_syntax.specs.declared.quantity.Quantity.{Quantity as Counted};
 ghost use Rattle.wasm_syntax.specs.declared.module.ModuleParts.{ModuleParts as Parts};
 ghost use Rattle.wasm_syntax.specs.Sizes.{WithinLimits};
 ghost use Rattle.wasm_decode.specs.declared.fault.DecodeFault.TheVariants.{Malformed, Float, ImportKind, Limit};
-ghost use Rattle.wasm_decode.specs.Decode.{functions_of, first_other, judged, module_from, Answers};
+ghost use Rattle.wasm_decode.specs.Decode.{functions_of, first_other, refusal, judged, module_from, Answers};
 ghost use Rattle.wasm_decode.specs.calls.Meaning.{Exactly, IsModuleOf, BreaksAt, HasFloatAt, HasOtherImport};
 ghost use Rattle.wasm_decode.specs.calls.Meaning.{PassesLimit};
 ghost use Rattle.wasm_decode.specs.inner.Fit.{Fit};
@@ -16,6 +16,7 @@ use crate::spelled;
 use causes::NoMemory;
 use pm_text::Items;
 use std::alloc::Global;
+use std::mem;
 use wasm_bytes::ItemFault;
 use wasm_format::{Imported, SpelledModule};
 use wasm_syntax::{Imports, Module, ModuleParts, Quantity};
@@ -48,26 +49,51 @@ fn functions(alloc: Global, imports: Items<Imported>) -> Result<Imports, NoMemor
     Ok(Items::from_vec(functions))
 }
 
-/// The module that was spelled, or why it is refused.
-#[tactic(auto, unfolding(crate::specs::Decode::module_of, crate::specs::Decode::refusal))]
-fn judged(alloc: Global, spelled: SpelledModule) -> Result<ModuleParts, DecodeFault>
+/// Why what was spelled is refused.
+#[tactic(auto, unfolding(crate::specs::Decode::module_of, crate::specs::Decode::refusal, crate::specs::Decode::too_much))]
+fn refusal(spelled: &SpelledModule) -> Option<DecodeFault>
+    requires { Fit spelled.now }
+    ensures { result ≡ refusal spelled.now }
+{
+    if let Some(at) = spelled.float {
+        return Some(DecodeFault::Float { at });
+    }
+    if let Some(index) = first_other(spelled.imports.as_slice()) {
+        return Some(DecodeFault::ImportKind { index });
+    }
+    too_much(&spelled.parts)
+}
+
+/// The functions among the imports, which are taken out, where nothing is refused.
+fn imported(alloc: Global, spelled: &mut SpelledModule) -> Result<Imports, DecodeFault>
+    requires { Fit spelled.old }
+    ensures same { spelled.new.parts ≡ spelled.old.parts }
+    ensures plain { OnOk result (refusal spelled.old ≡ None) }
+    ensures functions { IfOk result (λ imports. imports ≡ functions_of spelled.old.imports) }
+    ensures refused { IfErr result (λ fault. Answers (Err fault) (judged spelled.old)) }
+{
+    if let Some(fault) = refusal(spelled) {
+        return Err(fault);
+    }
+    let imports = mem::replace(&mut spelled.imports, Items::new(alloc));
+    match functions(alloc, imports) {
+        Ok(functions) => Ok(functions),
+        Err(NoMemory) => Err(DecodeFault::NoMemory),
+    }
+}
+
+/// The module that was spelled, or why it is refused. What was spelled is dropped at one place.
+fn judged(alloc: Global, mut spelled: SpelledModule) -> Result<ModuleParts, DecodeFault>
     requires { Fit spelled }
     ensures { Answers result (judged spelled) }
 {
-    if let Some(at) = spelled.float {
-        return Err(DecodeFault::Float { at });
-    }
-    if let Some(index) = first_other(spelled.imports.as_slice()) {
-        return Err(DecodeFault::ImportKind { index });
-    }
-    let mut parts = spelled.parts;
-    let Ok(imports) = functions(alloc, spelled.imports) else {
-        return Err(DecodeFault::NoMemory);
-    };
-    parts.imports = imports;
-    match too_much(&parts) {
-        Some(fault) => Err(fault),
-        None => Ok(parts),
+    match imported(alloc, &mut spelled) {
+        Ok(imports) => {
+            let mut parts = spelled.parts;
+            parts.imports = imports;
+            Ok(parts)
+        }
+        Err(fault) => Err(fault),
     }
 }
 

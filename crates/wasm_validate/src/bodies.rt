@@ -14,7 +14,7 @@ use validate_body::{BodyFault, Marks, check_body};
 use wasm_syntax::{Body, ModuleParts, Place};
 
 /// Why a module is refused: at a place, or for want of memory.
-#[derive(Clone, Copy, PartialEq, Eq)]
+#[derive(Clone, Copy)]
 pub enum BodiesFault {
     At(Place),
     NoMemory,

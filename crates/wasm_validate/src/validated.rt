@@ -1,10 +1,11 @@
 //! Modules that were validated.
 
-ghost use Rattle.std.specs.Prelude.{◌≡◌, ◌<◌, ℕ, List, length, slice_get, Option, Some, None};
+ghost use Rattle.std.specs.Prelude.{◌≡◌, ◌<◌, ℕ, List, length, slice_get, Option, Some, None, Err};
+ghost use Rattle.std.specs.Prelude.{IfOk, IfErr, OnOk};
 ghost use Rattle.wasm_syntax.specs.Module.{option_then};
 ghost use Rattle.validate_body.specs.declared.marks.Mark.{Mark as MarkThere};
 ghost use Rattle.wasm_syntax.specs.Valid.{Valid};
-ghost use Rattle.wasm_validate.specs.calls.Answers.{Answered};
+ghost use Rattle.wasm_validate.specs.calls.Answers.{Answered, Checked};
 ghost use Rattle.wasm_validate.specs.Heights.{HasOp, HeightIs, AllLow};
 ghost use Rattle.wasm_validate.specs.calls.Instructions.{HeightsAre, OpIs};
 ghost use Rattle.wasm_syntax.specs.Sizes.{WithinLimits};
@@ -27,7 +28,7 @@ use wasm_syntax::{Heights, Module, Place, Quantity, ValType};
 
 /// Why a module is refused: at the first place that is not valid; or since a function has too many
 /// operands at once, with the greatest number of the first such function; or for want of memory.
-#[derive(Clone, Copy, PartialEq, Eq)]
+#[derive(Clone, Copy)]
 pub enum ValidateFault {
     Invalid { place: Place },
     Limit { what: Quantity, count: u64 },
@@ -63,29 +64,58 @@ impl Model for Validated {
     ghost invariant = { λ v. IsChecked v.module v.marks v.heights v.rows };
 }
 
+/// What is known before each instruction.
+#[derive(Drop)]
+struct Known {
+    marks: Items<Marks>,
+    heights: Heights,
+    rows: Items<Rows>,
+}
+
 /// Whether a module is valid, with at most 4,096 operands at once in each function.
 pub fn validate(alloc: Global, module_: Module) -> Result<Validated, ValidateFault>
     requires { WithinLimits module_ }
     ensures { Answered result module_ }
 {
-    let found = bad_part(alloc, module_.parts())?;
+    // The module is dropped at one place, where it is refused.
+    let known = judge(alloc, &module_)?;
+    Ok(Validated {
+        module: module_,
+        marks: known.marks,
+        heights: known.heights,
+        rows: known.rows,
+    })
+}
+
+/// What is known of a module, or why it is refused.
+fn judge(alloc: Global, m: &Module) -> Result<Known, ValidateFault>
+    requires { WithinLimits m.now }
+    ensures known { IfOk result (λ k. Checked m.now k.marks k.heights k.rows) }
+    ensures valid { OnOk result (Valid m.now) }
+    ensures low { OnOk result (AllLow m.now) }
+    ensures refused { IfErr result (λ e. Answered (Err e) m.now) }
+{
+    let found = bad_part(alloc, m.parts())?;
     match found {
         Some(place) => return Err(ValidateFault::Invalid { place }),
         None => {}
     }
-    match check_bodies(alloc, module_.parts()) {
-        Ok(marks) => marked(alloc, module_, marks),
+    match check_bodies(alloc, m.parts()) {
+        Ok(marks) => marked(alloc, m, marks),
         Err(BodiesFault::At(place)) => Err(ValidateFault::Invalid { place }),
         Err(BodiesFault::NoMemory) => Err(ValidateFault::NoMemory),
     }
 }
 
-/// A valid module with its marks, where no function has too many operands.
-fn marked(alloc: Global, m: Module, marks: Items<Marks>) -> Result<Validated, ValidateFault>
-    requires limits { WithinLimits m }
-    requires valid { Valid m }
-    requires marked { MarkedUpTo marks m (length m.bodies) }
-    ensures { Answered result m }
+/// What is known of a valid module with these marks, where no function has too many operands.
+fn marked(alloc: Global, _m: &Module, marks: Items<Marks>) -> Result<Known, ValidateFault>
+    requires limits { WithinLimits _m.now }
+    requires valid { Valid _m.now }
+    requires marked { MarkedUpTo marks _m.now (length _m.now.bodies) }
+    ensures known { IfOk result (λ k. Checked _m.now k.marks k.heights k.rows) }
+    ensures valid { OnOk result (Valid _m.now) }
+    ensures low { OnOk result (AllLow _m.now) }
+    ensures refused { IfErr result (λ e. Answered (Err e) _m.now) }
 {
     match first_high(marks.as_slice()) {
         Some(count) => Err(ValidateFault::Limit {
@@ -95,8 +125,7 @@ fn marked(alloc: Global, m: Module, marks: Items<Marks>) -> Result<Validated, Va
         None => {
             let heights = heights_of_all(alloc, marks.as_slice())?;
             let rows = rows_of_all(alloc, marks.as_slice())?;
-            Ok(Validated {
-                module: m,
+            Ok(Known {
                 marks,
                 heights,
                 rows,
