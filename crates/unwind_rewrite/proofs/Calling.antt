@@ -76,29 +76,34 @@ pub entry_called : (C : Ctx) (n t : ℕ) (r : Option ValType) (es : List Place) 
     EmitsLast (load C n es (past_shown (doubles C.source) C (jump 0 (CallIndirect t) (store C r (less n es) stop)))) a e
 entry_called C n t r es p m q s = emits_last p (emits_last m (emits_last q (emits_stop s)))
 
-pub through_table : (C : Ctx) (ls : ℕ) (all : List Place) (e p : Place) (es : List Place) (o t f h n : ℕ) (type : FuncType) (r : Option ValType) {a b c d g j w u v : Written} → f ≡ helper_of C t → all ≡ e ∷ es → Some p ≡ slice_get all 0 →
+-- the call where the verdict is none, and what stands behind the test of both
+abbrev pub sound_call : Ctx → ℕ → List Place → ℕ → Option ValType → List Place → Nodes → Nodes
+sound_call C n all t r left k = choose 0 None (load C n all (past_shown (doubles C.source) C (jump 0 (CallIndirect t) (store C r left stop)))) None stop 0 k
+
+abbrev pub ended_call : Ctx → ℕ → Option ValType → List Place → Nodes → Nodes
+ended_call C n r left k = drops n (renew_both C (reload C r left k))
+
+pub through_table : (C : Ctx) (ls : ℕ) (all : List Place) (e p : Place) (es : List Place) (o t f h n : ℕ) (type : FuncType) (r : Option ValType) {a b c d g : Written} → f ≡ helper_of C t → all ≡ e ∷ es → Some p ≡ slice_get all 0 →
     h ≡ length all - 1 → n ≡ suc (length type.params) → r ≡ result_of type →
-    Emits (λ k. fetch C p h (call f (set C (kind_at C) (get C (kind_at C) (basic 0 (Eqz I32) k))))) a b → Opens (λ arm k. choose 0 None arm None stop 0 k) b c →
-    EmitsLast (load C n all (past_shown (doubles C.source) C (jump 0 (CallIndirect t) (store C r (less n all) stop)))) c d → Closes d g → Emits (test_both C ls (less n all) o (hand_top C n all stop)) g j → Emits (drops n) j w → Emits (renew_both C) w u → Emits (reload C r (less n all)) u v →
-    Emits (λ k. indirect_code C ls all o t (Some type) (λ behind. k)) a v
-through_table C ls all e p es o t f h n type r {a} {b} {c} {d} {g} {j} {w} {u} {v} helps is top at count gives q op l cl tb dr nw re =
+    Emits (λ k. fetch C p h (call f (set C (kind_at C) (get C (kind_at C) (basic 0 (Eqz I32) k))))) a b → Emits (sound_call C n all t r (less n all)) b c →
+    Emits (test_both C ls (less n all) o (hand_top C n all stop)) c d → Emits (ended_call C n r (less n all)) d g → Emits (λ k. indirect_code C ls all o t (Some type) (λ behind. k)) a g
+through_table C ls all e p es o t f h n type r {a} {b} {c} {d} {g} helps is top at count gives q l tb re =
     let m = length type.params in
     let same : p ≡ e = some_same (top ∙ ap (λ l. slice_get l 0) is) in
     let height : h ≡ length es = at ∙ ap (λ l. length l - 1) is ∙ omega arith in
     let q1 : Emits (λ k. fetch C e h (call f (set C (kind_at C) (get C (kind_at C) (basic 0 (Eqz I32) k))))) a b = subst (λ p. Emits (λ k. fetch C p h (call f (set C (kind_at C) (get C (kind_at C) (basic 0 (Eqz I32) k))))) a b) same q in
     let q2 : Emits (λ k. fetch C e (length es) (call f (set C (kind_at C) (get C (kind_at C) (basic 0 (Eqz I32) k))))) a b = subst (λ h. Emits (λ k. fetch C e h (call f (set C (kind_at C) (get C (kind_at C) (basic 0 (Eqz I32) k))))) a b) height q1 in
     let q3 : Emits (λ k. fetch C e (length es) (call (helper_of C t) (set C (kind_at C) (get C (kind_at C) (basic 0 (Eqz I32) k))))) a b = subst (λ f. Emits (λ k. fetch C e (length es) (call f (set C (kind_at C) (get C (kind_at C) (basic 0 (Eqz I32) k))))) a b) helps q2 in
-    let l1 : EmitsLast (load C (suc m) all (past_shown (doubles C.source) C (jump 0 (CallIndirect t) (store C r (less (suc m) all) stop)))) c d = subst (λ n. EmitsLast (load C n all (past_shown (doubles C.source) C (jump 0 (CallIndirect t) (store C r (less n all) stop)))) c d) count l in
-    let l2 : EmitsLast (load C (suc m) (e ∷ es) (past_shown (doubles C.source) C (jump 0 (CallIndirect t) (store C r (less m es) stop)))) c d = subst (λ l. EmitsLast (load C (suc m) l (past_shown (doubles C.source) C (jump 0 (CallIndirect t) (store C r (less (suc m) l) stop)))) c d) is l1 in
-    let l3 : EmitsLast (load C (suc m) (e ∷ es) (past_shown (doubles C.source) C (jump 0 (CallIndirect t) (store C (result_of type) (less m es) stop)))) c d = subst (λ r. EmitsLast (load C (suc m) (e ∷ es) (past_shown (doubles C.source) C (jump 0 (CallIndirect t) (store C r (less m es) stop)))) c d) gives l2 in
-    let t1 : Emits (test_both C ls (less (suc m) all) o (hand_top C (suc m) all stop)) g j = subst (λ n. Emits (test_both C ls (less n all) o (hand_top C n all stop)) g j) count tb in
-    let t2 : Emits (test_both C ls (less m es) o (hand_top C (suc m) (e ∷ es) stop)) g j = subst (λ l. Emits (test_both C ls (less (suc m) l) o (hand_top C (suc m) l stop)) g j) is t1 in
-    let d1 : Emits (drops (suc m)) j w = subst (λ n. Emits (drops n) j w) count dr in
-    let r1 : Emits (reload C r (less (suc m) all)) u v = subst (λ n. Emits (reload C r (less n all)) u v) count re in
-    let r2 : Emits (reload C r (less m es)) u v = subst (λ l. Emits (reload C r (less (suc m) l)) u v) is r1 in
-    let r3 : Emits (reload C (result_of type) (less m es)) u v = subst (λ r. Emits (reload C r (less m es)) u v) gives r2 in
-    let whole : Emits (λ k. indirect_code C ls (e ∷ es) o t (Some type) (λ behind. k)) a v = emits_same (λ k. refl) (emits_then q3 (emits_then (emits_within op l3 cl) (emits_then t2 (emits_then d1 (emits_then nw r3))))) in
-    subst (λ l. Emits (λ k. indirect_code C ls l o t (Some type) (λ behind. k)) a v) (sym is) whole
+    let l1 : Emits (sound_call C (suc m) all t r (less (suc m) all)) b c = subst (λ n. Emits (sound_call C n all t r (less n all)) b c) count l in
+    let l2 : Emits (sound_call C (suc m) (e ∷ es) t r (less m es)) b c = subst (λ l. Emits (sound_call C (suc m) l t r (less (suc m) l)) b c) is l1 in
+    let l3 : Emits (sound_call C (suc m) (e ∷ es) t (result_of type) (less m es)) b c = subst (λ r. Emits (sound_call C (suc m) (e ∷ es) t r (less m es)) b c) gives l2 in
+    let t1 : Emits (test_both C ls (less (suc m) all) o (hand_top C (suc m) all stop)) c d = subst (λ n. Emits (test_both C ls (less n all) o (hand_top C n all stop)) c d) count tb in
+    let t2 : Emits (test_both C ls (less m es) o (hand_top C (suc m) (e ∷ es) stop)) c d = subst (λ l. Emits (test_both C ls (less (suc m) l) o (hand_top C (suc m) l stop)) c d) is t1 in
+    let r1 : Emits (ended_call C (suc m) r (less (suc m) all)) d g = subst (λ n. Emits (ended_call C n r (less n all)) d g) count re in
+    let r2 : Emits (ended_call C (suc m) r (less m es)) d g = subst (λ l. Emits (ended_call C (suc m) r (less (suc m) l)) d g) is r1 in
+    let r3 : Emits (ended_call C (suc m) (result_of type) (less m es)) d g = subst (λ r. Emits (ended_call C (suc m) r (less m es)) d g) gives r2 in
+    let whole : Emits (λ k. indirect_code C ls (e ∷ es) o t (Some type) (λ behind. k)) a g = emits_same (λ k. refl) (emits_then q3 (emits_then l3 (emits_then t2 r3))) in
+    subst (λ l. Emits (λ k. indirect_code C ls l o t (Some type) (λ behind. k)) a g) (sym is) whole
   where
     some_same : {p q : Place} → Some p ≡ Some q → p ≡ q
     some_same e = cc

@@ -1,9 +1,9 @@
 -- What is known at a point of a body, and where the code goes from there.
 use Rattle.rewrite_bodies.specs.calls.Landings.{most_landings}
-use Rattle.std.proofs.Common.{◌≡◌, ◌≢◌, ℕ, zero, suc, pred, if◌then◌else◌, ◌+◌, ◌-◌, ◌^◌, ◌<◌, ◌≤◌, Bool, true, false, nat_le, nat_lt, Option, List, [], ◌∷◌, length, drop, get_or, slice_get, refl, sym, ap, subst, ◌∙◌, arith, length-drop, lt-ltb}
+use Rattle.std.proofs.Common.{◌≡◌, ◌≢◌, ℕ, zero, suc, pred, if◌then◌else◌, ◌+◌, ◌-◌, ◌^◌, ◌<◌, ◌≤◌, Bool, true, false, nat_lt, Option, List, [], ◌∷◌, length, drop, get_or, slice_get, refl, sym, ap, subst, ◌∙◌, arith, length-drop, lt-ltb}
 use Rattle.std.proofs.lemmas.List.{drop_all}
 use Rattle.std.proofs.lemmas.Option.{slice_get-get_or}
-use Rattle.std.proofs.lemmas.Bool.Decides.{nat_tests}
+use Rattle.std.proofs.lemmas.Bool.{leb-true, leb-false, false≢true}
 use Rattle.wasm_syntax.specs.declared.instruction.Op.{Op}
 use Rattle.wasm_syntax.specs.declared.instruction.Instr.{Instr}
 use Rattle.wasm_syntax.specs.declared.instruction.Instr.TheVariants as instrs
@@ -56,13 +56,16 @@ over_pushing C o i rest m e is same none there = rw (sym e ∙ is) (rw (sym same
     by (suc (suc m)) = lt-ltb 1 (suc (suc m)) (omega arith)
 
 -- where nothing is left, no node is
+no_first : {x : Placed} {xs : List Placed} → [] ≡ x ∷ xs → ⊥
+no_first e = omega (arith, ap length e)
+
 nothing_left : (nodes : Nodes) (dues : List Due) → [] ≡ write nodes (flat dues) → nodes ≡ stop
 nothing_left stop dues e = refl
-nothing_left (basic at i rest) dues e = absurd (cc)
-nothing_left (jump at j rest) dues e = absurd (cc)
-nothing_left (block at t inner end rest) dues e = absurd (cc)
-nothing_left (loop at t inner end rest) dues e = absurd (cc)
-nothing_left (choose at t a ea b end rest) dues e = absurd (cc)
+nothing_left (basic at i rest) dues e = absurd (no_first e)
+nothing_left (jump at j rest) dues e = absurd (no_first e)
+nothing_left (block at t inner end rest) dues e = absurd (no_first e)
+nothing_left (loop at t inner end rest) dues e = absurd (no_first e)
+nothing_left (choose at t a ea b end rest) dues e = absurd (no_first e)
 
 pub passes_nothing : (C : Ctx) (n : ℕ) (targets : List ℕ) (ops : List Op) → length ops ≤ n → Passes C (drop n (code_of targets ops)) true
 passes_nothing C n targets ops le nodes dues e =
@@ -158,20 +161,25 @@ saved_room C code start whole pc w now r x others is = by r.dues (subst (λ os. 
     by (before_else at other end rest ∷ ds) around = room_height C x.saved other around.0.room
 
 -- there stands `else` or `end`
+abbrev begins : Nodes → Bool
+begins stop = false
+begins nodes = true
+
+behind_list : (targets : List ℕ) (at : ℕ) (code : Instr) (xs : List Placed) (dues : List Due) → Shape at (item_of targets code) xs stop dues → IsBehind code
+behind_list targets at (instrs.Basic k) xs dues h = absurd (false≢true (ap begins h.1))
+behind_list targets at (instrs.Jump j) xs dues h = absurd (false≢true (ap begins h.1))
+behind_list targets at (instrs.Block t) xs dues h = absurd (false≢true (ap begins h.3))
+behind_list targets at (instrs.Loop t) xs dues h = absurd (false≢true (ap begins h.3))
+behind_list targets at (instrs.If t) xs dues h = absurd (false≢true (ap begins h.5))
+behind_list targets at instrs.Else xs dues h = tt
+behind_list targets at instrs.End xs dues h = tt
+
 pub stands_behind : (C : Ctx) (body : Body) (xs : List Op) (start : Written) (whole : Nodes) (pc : ℕ) (d : Op) (w : Walking) (now : Written) → xs ≡ body.ops → Left C (code_in body) start whole pc w now → IsBehind (get_or xs pc d).code
 stands_behind C body xs start whole pc d w now same r =
     let lt : pc < length body.ops = omega (arith, end_within C (code_in body) start whole pc w now r, code_length body.targets body.ops) in
     let o : Op = get_or body.ops pc d in
-    subst (λ os. IsBehind (get_or os pc d).code) (sym same) (by o.at o.code (shape stop r.dues o.at (item_of body.targets o.code) (drop (suc pc) (code_in body)) (sym (begins_read body.targets body.ops pc d lt) ∙ r.leaves.code_is)))
-  where
-    by : (at : ℕ) (code : Instr) → Shape at (item_of body.targets code) (drop (suc pc) (code_in body)) stop r.dues → IsBehind code
-    by at (instrs.Basic k) h = absurd (let e : stop ≡ basic at k h.0 = h.1 in cc)
-    by at (instrs.Jump j) h = absurd (let e : stop ≡ jump at (jump_of body.targets j) h.0 = h.1 in cc)
-    by at (instrs.Block t) h = absurd (let e : stop ≡ block at t h.0 h.1 h.2 = h.3 in cc)
-    by at (instrs.Loop t) h = absurd (let e : stop ≡ loop at t h.0 h.1 h.2 = h.3 in cc)
-    by at (instrs.If t) h = absurd (let e : stop ≡ choose at t h.0 h.1 h.2 h.3 h.4 = h.5 in cc)
-    by at instrs.Else h = tt
-    by at instrs.End h = tt
+    subst (λ os. IsBehind (get_or os pc d).code) (sym same)
+    (behind_list body.targets o.at o.code (drop (suc pc) (code_in body)) r.dues (shape stop r.dues o.at (item_of body.targets o.code) (drop (suc pc) (code_in body)) (sym (begins_read body.targets body.ops pc d lt) ∙ r.leaves.code_is)))
 
 pub resumes_next : (C : Ctx) (p : Bool) (body : Body) (xs : List Op) (start : Written) (whole : Nodes) (pc : ℕ) (d : Op) (w w' : Walking) {now next : Written} → xs ≡ body.ops → pc + 1 < length body.ops →
     ((targets : List ℕ) → Resumes C p (item_of targets (get_or xs pc d).code) w now w' next) → ((targets : List ℕ) → Passes C (drop (pc + 1) (code_of targets xs)) p) → Left C (code_in body) start whole pc w now → Rewrites C (code_in body) start whole (pc + 1) w' next
@@ -224,17 +232,11 @@ begun C body tree w now writes fine is =
 
 pub before_last : (n last : ℕ) (p : Point) → last ≡ n - 1 → is_last last p ≡ false → BeforeLast n p
 before_last n last (points.Live pc) e is = tt
-before_last n last (points.Ended pc) e is = omega (arith, e, not_le last pc is)
-  where
-    not_le : (a b : ℕ) → nat_le a b ≡ false → b < a
-    not_le a b e = grind (arith, nat_tests)
+before_last n last (points.Ended pc) e is = omega (arith, e, leb-false last pc is)
 
 pub all_written : (C : Ctx) (body : Body) (start : Written) (whole : Nodes) (w : Walking) (now : Written) (last : ℕ) (p : Point) → last ≡ length body.ops - 1 → is_last last p ≡ true → Holds C (code_in body) start whole w now p → EmitsLast whole start now
-all_written C body start whole w now last (points.Live pc) e is h = absurd (let no : false ≡ true = is in cc)
+all_written C body start whole w now last (points.Live pc) e is h = absurd (false≢true is)
 all_written C body start whole w now last (points.Ended pc) e is h =
     let lt = end_within C (code_in body) start whole pc w now h in
-    let at : suc pc ≡ length (code_in body) = omega (arith, e, le last pc is, lt, code_length body.targets body.ops) in
+    let at : suc pc ≡ length (code_in body) = omega (arith, e, leb-true last pc is, lt, code_length body.targets body.ops) in
     whole_written C (code_in body) start whole pc w now at h
-  where
-    le : (a b : ℕ) → nat_le a b ≡ true → a ≤ b
-    le a b e = grind (arith, nat_tests)

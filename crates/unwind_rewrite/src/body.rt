@@ -1,6 +1,6 @@
 //! The body of a rewritten function.
 
-ghost use Rattle.std.specs.Prelude.{◌≡◌, ◌+◌, ◌^◌, ◌<◌, ◌≤◌, ◌++◌, ℕ, List, [], length, slice_get, IfOk, Some};
+ghost use Rattle.std.specs.Prelude.{◌≡◌, ◌+◌, ◌^◌, ◌<◌, ◌≤◌, ◌++◌, ℕ, List, [], length, slice_get, IfOk, OnOk, Some};
 ghost use Rattle.wasm_syntax.specs.declared.parts.Body.{Body as FunctionBody};
 ghost use Rattle.wasm_syntax.specs.Module.{Ascend};
 ghost use Rattle.wasm_syntax.specs.Tree.{Tree as TreeOf, Writes};
@@ -9,6 +9,7 @@ ghost use Rattle.rewrite_bodies.specs.calls.Rewrite.{laid};
 ghost use Rattle.rewrite_bodies.specs.calls.Slots.{groups};
 ghost use Rattle.wasm_syntax.specs.SameCode.{body_code};
 ghost use Rattle.rewrite_modules.specs.calls.FlatCode.{body_of};
+ghost use Rattle.rewrite_code.specs.calls.Writing.{EmitsLast};
 ghost use Rattle.rewrite_modules.specs.Multiple.{half};
 ghost use Rattle.rewrite_modules.specs.Weight.{AreHeights};
 ghost use Rattle.rewrite_modules.specs.calls.Unwinding.{Unwinds};
@@ -16,6 +17,7 @@ ghost use Rattle.rewrite_promise.specs.calls.Promise.{Accepted};
 ghost use Rattle.rewrite_promise.specs.calls.Layers.{BodyPromised};
 ghost use Rattle.operand_spill.specs.calls.Standing.{Fine};
 ghost use Rattle.unwind_rewrite.specs.calls.Bodies.{LowLandings};
+ghost use Rattle.unwind_rewrite.specs.calls.Contexts.{IsContextFor};
 ghost use Rattle.unwind_rewrite.specs.calls.Numbers.{HasHelpers, AllHelped};
 ghost use Rattle.unwind_rewrite.specs.calls.Points.{CanBeWritten};
 ghost use Rattle.operand_spill.specs.calls.Plans.{IsDefined};
@@ -29,6 +31,29 @@ use pm_text::Items;
 use rewrite_code::{CodeWriter, FunctionContext};
 use std::alloc::Global;
 use wasm_syntax::{Body, ModuleParts, ValType};
+
+/// The code of a body with this context, behind what was written.
+fn write_code(
+    alloc: Global,
+    context: &FunctionContext<'_, '_>,
+    writer: &mut CodeWriter,
+    parts: &ModuleParts,
+    body: &Body,
+) -> Result<(), NoMemory>
+    requires source { parts.now ≡ context.now.source }
+    requires helpers { HasHelpers context.now }
+    requires helped { AllHelped context.now body.now.ops }
+    requires few { length body.now.ops + most_landings + 1 < 2 ^ 32 }
+    requires tree { CanBeWritten context.now body.now }
+    requires low { LowLandings context.now }
+    ensures { (tree : TreeOf) → Writes body.now.targets body.now.ops tree
+        → Fine context.now [] tree.nodes
+        → OnOk result (EmitsLast (laid context.now tree.nodes) writer.old writer.new) }
+{
+    open_body(context, writer)?;
+    write_nodes(alloc, context, writer, parts, body)?;
+    close_body(context, writer)
+}
 
 /// The rewritten body of a function whose body and context these are, with the locals that are
 /// added.
@@ -52,9 +77,7 @@ fn write_body(
     ensures offsets { IfOk result (λ out. length out.ops ≤ 2 ^ 32 → Ascend 0 out.ops) }
 {
     let mut writer = CodeWriter::new(alloc);
-    open_body(context, &mut writer)?;
-    write_nodes(alloc, context, &mut writer, parts, body)?;
-    close_body(context, &mut writer)?;
+    write_code(alloc, context, &mut writer, parts, body)?;
     let locals = with_added(alloc, body.groups.as_slice(), context.slots())?;
     writer.finish(locals)
 }
@@ -67,6 +90,31 @@ fn gives(parts: &ModuleParts, func: u32) -> Option<ValType>
         Some(ftype) => ftype.result_type(),
         None => None,
     }
+}
+
+/// The context of a function with this body, by its plan.
+fn planned_context<'m, 'a>(
+    alloc: Global,
+    numbers: &'m IndexMap<'a>,
+    func: u32,
+    plan: &SlotPlan,
+    body: &Body,
+) -> Result<FunctionContext<'m, 'a>, NoMemory>
+    ensures { IfOk result (IsContextFor numbers.now func plan.now body.now) }
+{
+    let parts = numbers.source();
+    let types = plan.types();
+    let ops = body.ops.as_slice();
+    let guarded = exposed(alloc, parts, ops)?;
+    let found = landings(alloc, types, parts, ops, &guarded)?;
+    let derived = derivations(alloc, parts, func, types, ops, &guarded)?;
+    let locals = Items::from_slice(alloc, types)?;
+    let heights = plan.heights();
+    let result = gives(parts, func);
+    let context = FunctionContext::new(
+        numbers, locals, heights, func, result, found, guarded, derived,
+    );
+    Ok(context)
 }
 
 /// The body of a function of an accepted module, rewritten by its plan: that of the definitions,
@@ -93,21 +141,6 @@ pub fn rewrite_body(
 {
     let parts = numbers.source();
     let body = body_at(parts, func);
-    let locals = Items::from_slice(alloc, plan.types())?;
-    let result = gives(parts, func);
-    let guarded = exposed(alloc, parts, body.ops.as_slice())?;
-    let found = landings(alloc, plan.types(), parts, body.ops.as_slice(), &guarded)?;
-    let derived = derivations(
-        alloc,
-        parts,
-        func,
-        plan.types(),
-        body.ops.as_slice(),
-        &guarded,
-    )?;
-    let heights = plan.heights();
-    let context = FunctionContext::new(
-        numbers, locals, heights, func, result, found, guarded, derived,
-    );
+    let context = planned_context(alloc, numbers, func, plan, body)?;
     write_body(alloc, &context, parts, body)
 }

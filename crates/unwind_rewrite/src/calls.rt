@@ -1,16 +1,17 @@
 //! Calls, and what stands behind them.
 
-ghost use Rattle.std.specs.Prelude.{◌≡◌, ◌+◌, ◌^◌, ◌<◌, ◌≤◌, nat_lt, List, ◌∷◌, length, Some, OnOk};
+ghost use Rattle.std.specs.Prelude.{◌≡◌, ◌+◌, ◌^◌, ◌<◌, ◌≤◌, nat_lt, List, ◌∷◌, length, Some, None, OnOk};
 ghost use Rattle.wasm_syntax.specs.declared.value.ValType.TheVariants.{I32 as I32Of};
 ghost use Rattle.wasm_syntax.specs.declared.instruction.Basic.TheVariants.{Eqz as EqzOf};
-ghost use Rattle.wasm_syntax.specs.Tree.{CallIndirect, stop, basic, jump};
+ghost use Rattle.wasm_syntax.specs.Tree.{CallIndirect, stop, basic, choose, jump};
 ghost use Rattle.wasm_syntax.specs.Machine.{result_of};
 ghost use Rattle.wasm_syntax.specs.Module.{function_types};
 ghost use Rattle.rewrite_bodies.specs.Numbering.{doubles, import_count};
 ghost use Rattle.rewrite_bodies.specs.calls.Slots.{Place as PlaceOf, less, kind_at};
-ghost use Rattle.rewrite_bodies.specs.calls.Pieces.{call, fetch, get, load, set, store};
+ghost use Rattle.rewrite_bodies.specs.calls.Pieces.{call, drops, fetch, get, load, reload, set, store};
 ghost use Rattle.rewrite_bodies.specs.calls.Rewrite.{after_call, after_direct, call_code, helper_of, indirect_code};
 ghost use Rattle.rewrite_bodies.specs.calls.Rewrite.{past_shown};
+ghost use Rattle.rewrite_bodies.specs.calls.Guards.{renew_both};
 ghost use Rattle.rewrite_code.specs.calls.Writing.{Emits, EmitsLast};
 ghost use Rattle.rewrite_code.specs.calls.Places.{place};
 ghost use Rattle.rewrite_bodies.specs.calls.Landings.{most_landings};
@@ -157,6 +158,44 @@ fn call_entry(
     store_left(context, writer, gives, places, count)
 }
 
+/// The call of an entry where the number on the stack is not 0.
+fn call_where_sound(
+    context: &FunctionContext<'_, '_>,
+    writer: &mut CodeWriter,
+    places: &OperandPlaces,
+    count: usize,
+    type_index: u32,
+    gives: Option<ValType>,
+) -> Result<(), NoMemory>
+    requires { length places.now ≤ context.now.slots }
+    ensures { OnOk result (Emits (λ k. choose 0 None (load context.now count places.now
+        (past_shown (doubles context.now.source) context.now
+        (jump 0 (CallIndirect type_index) (store context.now gives (less count places.now) stop))))
+        None stop 0 k) writer.old writer.new) }
+{
+    writer.open_if(None)?;
+    call_entry(context, writer, places, count, type_index, gives)?;
+    writer.close()
+}
+
+/// Behind the call of an entry: its operands are dropped, so many with the index, and its result
+/// comes back from its slot.
+fn end_call(
+    context: &FunctionContext<'_, '_>,
+    writer: &mut CodeWriter,
+    places: &OperandPlaces,
+    count: usize,
+    gives: Option<ValType>,
+) -> Result<(), NoMemory>
+    requires { length places.now ≤ context.now.slots }
+    ensures { OnOk result (Emits (λ k. drops count (renew_both context.now
+        (reload context.now gives (less count places.now) k))) writer.old writer.new) }
+{
+    drops(writer, count)?;
+    context.renew(writer)?;
+    reload_left(context, writer, gives, places, count)
+}
+
 /// `call_indirect`, of a function of this type; the index of the entry is the topmost operand.
 pub fn call_through_table(
     context: &FunctionContext<'_, '_>,
@@ -179,11 +218,7 @@ pub fn call_through_table(
     let gives = ftype.result_type();
     let count = ftype.params.as_slice().len() + 1;
     keep_verdict(context, writer, entry, places.len() - 1, numbers.helper)?;
-    writer.open_if(None)?;
-    call_entry(context, writer, places, count, numbers.index, gives)?;
-    writer.close()?;
+    call_where_sound(context, writer, places, count, numbers.index, gives)?;
     test_both(context, writer, site, count)?;
-    drops(writer, count)?;
-    context.renew(writer)?;
-    reload_left(context, writer, gives, places, count)
+    end_call(context, writer, places, count, gives)
 }
