@@ -22,10 +22,19 @@ fn is_written(alloc: Global, code: &Instr, bytes: &[u8]) -> bool
     write_instr(&mut out, code, &targets).is_ok() && out.as_slice() == bytes
 }
 
+/// Whether both are the same instruction, or none.
+fn are_same(read: Option<Instr>, wanted: Option<Instr>) -> bool {
+    match (read, wanted) {
+        (Some(a), Some(b)) => a.is_same(&b),
+        (None, None) => true,
+        _ => false,
+    }
+}
+
 /// Whether these bytes are read as this, and to their end.
 fn is_read(alloc: Global, bytes: &[u8], code: Option<Instr>) -> bool {
     match read_instr(alloc, bytes, 0, bytes.len()) {
-        Ok(read) => read.code == code && read.next == bytes.len(),
+        Ok(read) => are_same(read.code, code) && read.next == bytes.len(),
         Err(_) => false,
     }
 }
@@ -293,7 +302,7 @@ const BR_TABLE: [u8; 7] = [0x0e, 0x03, 0x01, 0xac, 0x02, 0x00, 0x07];
 fn adds_targets(alloc: Global, bytes: &[u8]) -> Result<bool, NoMemory> {
     let mut targets: Labels = Items::from_slice(alloc, &[9, 8])?;
     let found = match read_code(&mut targets, &mut Reader::new(bytes)) {
-        Ok(Code::Known(code)) => code == Instr::Jump(Jump::BrTable(2, 3, 7)),
+        Ok(Code::Known(Instr::Jump(Jump::BrTable(2, 3, 7)))) => true,
         _ => false,
     };
     Ok(found && targets.as_slice() == [9, 8, 1, 300, 0].as_slice())
@@ -309,7 +318,7 @@ fn targets_are_added(rt: HostRuntime) -> Result<(), Fail> {
 fn is_table(alloc: Global, bytes: &[u8]) -> bool {
     match read_instr(alloc, bytes, 0, bytes.len()) {
         Ok(read) => {
-            read.code == Some(Instr::Jump(Jump::BrTable(0, 3, 7)))
+            matches!(read.code, Some(Instr::Jump(Jump::BrTable(0, 3, 7))))
                 && read.targets.as_slice() == [1, 300, 0].as_slice()
         }
         Err(_) => false,

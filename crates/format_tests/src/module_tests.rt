@@ -64,7 +64,12 @@ fn has_division(parts: &ModuleParts) -> bool {
 }
 
 fn is_division_at(op: &Op, at: u32) -> bool {
-    op.at == at && op.len == 1 && op.code == Instr::Basic(Basic::Binary(ValType::I32, Binary::DivS))
+    op.at == at
+        && op.len == 1
+        && matches!(
+            op.code,
+            Instr::Basic(Basic::Binary(ValType::I32, Binary::DivS))
+        )
 }
 
 fn has_division_in(alloc: Global, bytes: &[u8]) -> bool {

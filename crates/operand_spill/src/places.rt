@@ -89,7 +89,7 @@ fn jump(walk: &mut Walk, source: &ModuleParts, code: Jump) -> Result<Flow, NoMem
 fn is_else(code: Instr) -> bool
     ensures { (targets : List ℕ) → result ≡ is_else (item_of targets code) }
 {
-    code == Instr::Else
+    matches!(code, Instr::Else)
 }
 
 /// The `else` or the `end` behind a list.

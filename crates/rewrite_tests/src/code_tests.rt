@@ -7,7 +7,7 @@ use std::alloc::Global;
 use wasm_syntax::{Body, Instr, Jump, LocalGroup, Op, ValType};
 
 fn is_op(op: &Op, at: usize, code: &Instr) -> bool {
-    op.at as usize == at && op.len == 0 && op.code == *code
+    op.at as usize == at && op.len == 0 && op.code.is_same(code)
 }
 
 // Each instruction at the offset of its number, with length 0.

@@ -2,7 +2,7 @@
 
 /// What opened a block: a body, a `block` or an `else`; a `loop`; an `if`, whose first arm may
 /// still end in an `else`.
-#[derive(Clone, Copy, PartialEq, Eq)]
+#[derive(Clone, Copy)]
 pub enum BlockKind {
     Plain,
     Loop,

@@ -150,6 +150,15 @@ impl Code for Instr {
     }
 }
 
+impl Instr {
+    /// Whether two instructions are the same.
+    pub fn is_same(&self, other: &Instr) -> bool
+        ensures { IsTrue result ↔ (self.now ≡ other.now) }
+    {
+        self.same(other)
+    }
+}
+
 impl Code for Op {
     ghost code = { op_code };
 

@@ -40,7 +40,7 @@ pub struct Served {
 }
 
 /// A call of the collector, to which an instrumented module hands over its frames.
-#[derive(Clone, Copy, PartialEq, Eq)]
+#[derive(Clone, Copy)]
 pub enum CollectorCall {
     ValueI32(u32),
     ValueI64(u64),

@@ -122,7 +122,7 @@ impl Store {
 
 /// An instruction behind which the next one of its sequence is run (Core 2.4.1 to 2.4.4, and `nop`;
 /// Core 2.0 for the sign extensions, `memory.copy` and `memory.fill`).
-#[derive(Clone, Copy, PartialEq, Eq)]
+#[derive(Clone, Copy)]
 pub enum Basic {
     Nop,
     Drop,
@@ -168,7 +168,7 @@ pub enum Jump {
 }
 
 /// An instruction as it stands in a flat body (Core 2.4, 5.4).
-#[derive(Clone, Copy, PartialEq, Eq)]
+#[derive(Clone, Copy)]
 pub enum Instr {
     Basic(Basic),
     Jump(Jump),
@@ -181,7 +181,7 @@ pub enum Instr {
 
 /// An instruction with the code offset of its first byte, in bytes from the first byte of the code
 /// entry after its size field, and its length in bytes.
-#[derive(Clone, Copy, PartialEq, Eq)]
+#[derive(Clone, Copy)]
 pub struct Op {
     pub at: u32,
     pub len: u32,

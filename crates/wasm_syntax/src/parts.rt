@@ -89,7 +89,7 @@ pub struct Global {
 }
 
 /// What an export names (Core 2.5.10).
-#[derive(Clone, Copy, PartialEq, Eq)]
+#[derive(Clone, Copy)]
 pub enum ExportKind {
     Function,
     Table,

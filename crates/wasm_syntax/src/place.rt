@@ -2,7 +2,7 @@
 
 /// A part of a module that validation judges by itself (Core 3.4). Functions are numbered with the
 /// imported ones first.
-#[derive(Clone, Copy, PartialEq, Eq)]
+#[derive(Clone, Copy)]
 pub enum Place {
     TypeAt(u32),
     ImportAt(u32),

@@ -5,7 +5,7 @@ ghost use Rattle.wasm_syntax.specs.Machine.{zero_of};
 ghost use Rattle.wasm_syntax.specs.Numbers.{same_type, seen_of, type_of};
 
 /// A type of values (Core 2.3.1), without the floats.
-#[derive(Clone, Copy, Debug, PartialEq, Eq)]
+#[derive(Clone, Copy, PartialEq, Eq)]
 pub enum ValType {
     I32,
     I64,
@@ -65,7 +65,7 @@ impl Value {
 }
 
 /// What a dump shows of a value.
-#[derive(Clone, Copy, Debug, PartialEq, Eq)]
+#[derive(Clone, Copy, PartialEq, Eq)]
 pub enum Seen {
     I32(u32),
     I64(u64),
