@@ -6,18 +6,17 @@ use Rattle.wasm_bytes.specs.Laws.{IsBytes}
 use Rattle.dwarf_info.specs.declared.entry.UnitAnswer.{UnitAnswer}
 use Rattle.dwarf_info.specs.declared.places.EntryPlace.{EntryPlace}
 use Rattle.dwarf_info.specs.Sections.{SectionBytes, SectionBytes5, without5}
-use Rattle.dwarf_info.specs.Units.{Versions, entries_in, answers_of, units_of}
+use Rattle.dwarf_info.specs.Units.{entries_in, settled, units_of}
 use Rattle.dwarf_info.specs.Version4.{only4, units4}
 use Rattle.dwarf_info.specs.calls.Grammar4.{IsUnits4}
 use Rattle.dwarf_info.specs.inner.Settling.{meets, answer_by, any_at}
 use Rattle.dwarf_info.proofs.SettleLaws.{all_settled}
 use Rattle.dwarf_info.proofs.UnitLaws4.{units4_spelled}
 
--- Units whose references are settled by the places of all entries are those of the section.
-pub settled_units : (s : SectionBytes5) (versions : Versions) (places : ℕ → Option EntryPlace) (answers units : List UnitAnswer) → answers ≡ answers_of s versions
-    → ((q : ℕ) → meets places q ≡ any_at q (flat_map entries_in answers)) → units ≡ map (answer_by (meets places)) answers → units ≡ units_of s versions
-unfolding units_of
-settled_units s versions places answers units read there settled_by = rw (← read) (settled_by ∙ all_settled places answers there)
+-- Units whose references are settled by the places of all entries.
+pub settled_units : (places : ℕ → Option EntryPlace) (answers units : List UnitAnswer)
+    → ((q : ℕ) → meets places q ≡ any_at q (flat_map entries_in answers)) → units ≡ map (answer_by (meets places)) answers → units ≡ settled answers
+settled_units places answers units there settled_by = settled_by ∙ all_settled places answers there
 
 pub exact4 : (r : Result (List UnitAnswer) NoMemory) (s : SectionBytes) (t : SectionBytes5) → t ≡ without5 s → IfOk r (λ units. units ≡ units_of t only4) → IfOk r (λ units. units ≡ units4 s)
 unfolding units4

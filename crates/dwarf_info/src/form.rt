@@ -9,7 +9,7 @@ use pm_text::Items;
 use std::marker::Model;
 
 /// How a number is spelled.
-#[derive(Clone, Copy, Debug, PartialEq, Eq)]
+#[derive(Clone, Copy)]
 pub enum NumberForm {
     /// So many bytes, at most 8, the lowest first.
     Bytes(u32),
@@ -18,14 +18,14 @@ pub enum NumberForm {
 }
 
 /// A section that holds texts.
-#[derive(Clone, Copy, Debug, PartialEq, Eq)]
+#[derive(Clone, Copy)]
 pub enum TextSection {
     Str,
     LineStr,
 }
 
 /// A table that is looked up by index.
-#[derive(Clone, Copy, Debug, PartialEq, Eq)]
+#[derive(Clone, Copy)]
 pub enum IndexTable {
     Texts,
     Addresses,
@@ -34,7 +34,7 @@ pub enum IndexTable {
 }
 
 /// What a number stands for.
-#[derive(Clone, Copy, Debug, PartialEq, Eq)]
+#[derive(Clone, Copy)]
 pub enum Meaning {
     Address,
     Constant,
@@ -52,7 +52,7 @@ pub enum Meaning {
 }
 
 /// The form of a value.
-#[derive(Clone, Copy, Debug, PartialEq, Eq)]
+#[derive(Clone, Copy)]
 pub enum Form {
     Number(NumberForm, Meaning),
     /// A number of bytes, and as many bytes.

@@ -7,7 +7,7 @@ ghost use Rattle.dwarf_info.specs.Sections.{greatest_section};
 ghost use Rattle.dwarf_info.specs.calls.Pairs.{Pair, IsRight, Knows, KnowsAll, IsInFront};
 
 use crate::form::Slot;
-use crate::marks::{marked_pairs, pairs_of};
+use crate::marks::{Marks, marked_pairs, pairs_of};
 use crate::sections::Sections5;
 use crate::slots::SlotLists;
 use crate::version::UnitVersion;
@@ -202,6 +202,43 @@ fn known_of_rows(
     Ok(known)
 }
 
+/// The pairs that were read, with what is known of rows.
+fn shared_pairs(
+    alloc: Global,
+    all: GrowingPairs,
+    known: BTreeMap<u64, PairsAt>,
+) -> Result<KnownPairs, NoMemory>
+    ensures lists { IfOk result (λ pairs. pairs.lists.value ≡ all.lists) }
+    ensures known { IfOk result (λ pairs. pairs.known ≡ known) }
+{
+    let GrowingPairs {
+        lists,
+        known: _learned,
+    } = all;
+    match Rc::new(alloc, lists) {
+        Ok(lists) => Ok(KnownPairs { lists, known }),
+        Err(_) => Err(NoMemory),
+    }
+}
+
+/// The pairs of rows at marked offsets.
+fn pairs_at<'a, V: UnitVersion<'a>>(
+    alloc: Global,
+    section: &'a [u8],
+    marks: &Marks,
+) -> Result<KnownPairs, NoMemory>
+    requires short { length section.now ≤ greatest_section }
+    requires rows { length marks.now.rows ≤ length section.now + 1 }
+    requires pairs { length marks.now.pairs ≤ length section.now + 1 }
+    ensures { IfOk result (λ all. Knows V.pair section.now all.lists.value
+        (get nat_cmp all.known)) }
+{
+    let all = learn_all::<V>(alloc, section, marks.pairs.as_slice())?;
+    let known = known_of_rows(alloc, section, &all, marks.rows.as_slice())?;
+    let pairs = shared_pairs(alloc, all, known)?;
+    Ok(pairs)
+}
+
 impl KnownPairs {
     /// The pairs of all rows that the units of these sections have, and maybe others.
     pub fn of<'a, V: UnitVersion<'a>>(
@@ -213,16 +250,8 @@ impl KnownPairs {
     {
         let section = sections.abbreviations();
         let marks = marked_pairs::<V>(alloc, sections)?;
-        let all = learn_all::<V>(alloc, section, marks.pairs.as_slice())?;
-        let known = known_of_rows(alloc, section, &all, marks.rows.as_slice())?;
-        let GrowingPairs {
-            lists,
-            known: _learned,
-        } = all;
-        match Rc::new(alloc, lists) {
-            Ok(lists) => Ok(KnownPairs { lists, known }),
-            Err(_) => Err(NoMemory),
-        }
+        let pairs = pairs_at::<V>(alloc, section, &marks)?;
+        Ok(pairs)
     }
 
     /// What the pairs of a row that begin at an offset are, where it is known.

@@ -14,7 +14,7 @@ use std::alloc::Global;
 use std::marker::Model;
 
 /// Where an entry stands in a list of units.
-#[derive(Clone, Copy, Debug, PartialEq, Eq)]
+#[derive(Clone, Copy, PartialEq, Eq)]
 pub struct EntryPlace {
     /// The number of its unit, from 0.
     pub unit: usize,
@@ -24,7 +24,7 @@ pub struct EntryPlace {
 
 /// An offset of the section, and where the entry with that offset stands: the number of its unit, and
 /// its own number there.
-#[derive(Clone, Copy, Debug, PartialEq, Eq)]
+#[derive(Clone, Copy)]
 pub struct PlacedEntry {
     pub at: u32,
     pub unit: u32,

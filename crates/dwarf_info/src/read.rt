@@ -2,11 +2,12 @@
 
 ghost use Rattle.std.specs.Prelude.{◌≡◌, ◌≤◌, length, IfOk};
 ghost use Rattle.dwarf_info.specs.Sections.{IsReadable, greatest_section};
-ghost use Rattle.dwarf_info.specs.Units.{units_of};
-ghost use Rattle.dwarf_info.specs.Version4.{units4};
+ghost use Rattle.dwarf_info.specs.Units.{settled, units_of};
+ghost use Rattle.dwarf_info.specs.Version4.{only4, units4};
 ghost use Rattle.dwarf_info.specs.calls.Grammar4.{IsUnits4};
 
 use crate::answers::read_answers;
+use crate::entry::UnitAnswer;
 use crate::places::Places;
 use crate::prepared::PreparedSections;
 use crate::sections::{Sections, Sections5};
@@ -15,7 +16,17 @@ use crate::units::Units;
 use crate::version::UnitVersions;
 use crate::version4::OnlyFour;
 use causes::NoMemory;
+use pm_text::Items;
 use std::alloc::Global;
+
+/// The units, where nothing is left of each reference that meets no entry.
+fn settled<'a>(alloc: Global, answers: Items<UnitAnswer<'a>>) -> Result<Units<'a>, NoMemory>
+    ensures { IfOk result (λ units. units ≡ settled answers.entry) }
+{
+    let places = Places::of(alloc, answers.as_slice())?;
+    let kept = settled_answers(alloc, &places, answers)?;
+    Ok(Units::new(kept, places))
+}
 
 #[tactic(auto, unfolding(crate::specs::Units::units_of))]
 fn read_prepared<'a, W: UnitVersions<'a>>(
@@ -28,9 +39,8 @@ fn read_prepared<'a, W: UnitVersions<'a>>(
     ensures { IfOk result (λ units. units ≡ units_of sections.now W.versions) }
 {
     let answers = read_answers(alloc, sections, versions)?;
-    let places = Places::of(alloc, answers.as_slice())?;
-    let settled = settled_answers(alloc, &places, answers)?;
-    Ok(Units::new(settled, places))
+    let units = settled(alloc, answers)?;
+    Ok(units)
 }
 
 /// The units of `.debug_info`, in order. Those of the given versions are read.
@@ -47,6 +57,16 @@ pub fn read_all<'a, W: UnitVersions<'a>>(
     read_prepared(alloc, &prepared, versions)
 }
 
+/// The units of `.debug_info`, of which those of version 4 are read.
+fn read_four<'a>(alloc: Global, sections: &Sections5<'a>) -> Result<Units<'a>, NoMemory>
+    requires info { length sections.now.base.info ≤ greatest_section }
+    requires abbreviations { length sections.now.base.abbreviations ≤ greatest_section }
+    ensures { IfOk result (λ units. units ≡ units_of sections.now only4) }
+{
+    let mut versions = OnlyFour::new(alloc, sections)?;
+    read_all(alloc, sections, &mut versions)
+}
+
 /// The units of `.debug_info`, in order (DWARF 4 section 7.5.1). Those of version 4 are read; in
 /// place of each other one stands the offset of its length.
 #[tactic(auto, unfolding(crate::specs::Version4::units4))]
@@ -56,6 +76,5 @@ pub fn read_units<'a>(alloc: Global, sections: &Sections<'a>) -> Result<Units<'a
     ensures spelled { IfOk result (IsUnits4 sections.now) }
 {
     let all = Sections5::without5(sections);
-    let mut versions = OnlyFour::new(alloc, &all)?;
-    read_all(alloc, &all, &mut versions)
+    read_four(alloc, &all)
 }

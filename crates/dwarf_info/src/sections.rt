@@ -66,6 +66,22 @@ fn section<'a>(bytes: &'a [u8]) -> &'a [u8]
     bytes
 }
 
+impl<'a> Sections<'a> {
+    /// The same sections once more.
+    fn borrowed(&self) -> Self
+        ensures { result ≡ self.now }
+    {
+        Sections {
+            info: self.info,
+            abbrev: self.abbrev,
+            line: self.line,
+            str: self.str,
+            loc: self.loc,
+            ranges: self.ranges,
+        }
+    }
+}
+
 impl<'a> Sections5<'a> {
     /// The sections that version 5 adds are absent.
     pub fn without5(base: &Sections<'a>) -> Self
@@ -101,14 +117,7 @@ impl<'a> Sections5<'a> {
         ensures { result ≡ self.now }
     {
         Sections5 {
-            base: Sections {
-                info: self.base.info,
-                abbrev: self.base.abbrev,
-                line: self.base.line,
-                str: self.base.str,
-                loc: self.base.loc,
-                ranges: self.base.ranges,
-            },
+            base: self.base.borrowed(),
             line_str: self.line_str,
             str_offsets: self.str_offsets,
             addr: self.addr,

@@ -129,8 +129,7 @@ impl Holders {
         let mut lists = no_ranges(alloc);
         let named = self.bounded.at(address);
         let listed = self.listed.as_slice();
-        let number = first_or(sections, entries, address, named, listed, &mut lists)?;
-        Ok(number)
+        first_or(sections, entries, address, named, listed, &mut lists)
     }
 
     /// The first of the entries that holds an address.

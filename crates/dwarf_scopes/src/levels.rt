@@ -156,7 +156,6 @@ fn doubled(alloc: Global, parts: &[Spans]) -> Result<Items<Spans>, NoMemory>
 }
 
 /// The parts of the next level.
-#[tactic(auto, using(crate::proofs::LevelLaws::are_larger))]
 fn larger(alloc: Global, parts: &[Spans]) -> Result<Items<Spans>, NoMemory>
     ensures { IfOk result (λ more. (size : ℕ) → (entries : List Listed)
         → definitions.AreParts size parts.now entries
@@ -164,8 +163,7 @@ fn larger(alloc: Global, parts: &[Spans]) -> Result<Items<Spans>, NoMemory>
 {
     let double = doubled(alloc, parts)?;
     let fourfold = doubled(alloc, double.as_slice())?;
-    let eightfold = doubled(alloc, fourfold.as_slice())?;
-    Ok(eightfold)
+    doubled(alloc, fourfold.as_slice())
 }
 
 /// The levels of entries, as far as there are whole parts.
@@ -237,8 +235,7 @@ fn counts_of(alloc: Global, entries: &[Entry<'_>]) -> Result<Items<u32>, NoMemor
     ensures { IfOk result (λ counts. counts ≡ insides entries.now) }
 {
     let counts = insides_of(alloc, entries)?;
-    let narrow = narrowed(alloc, counts.as_slice())?;
-    Ok(narrow)
+    narrowed(alloc, counts.as_slice())
 }
 
 impl UnitLevels {

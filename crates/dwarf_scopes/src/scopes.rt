@@ -90,6 +90,30 @@ fn is_wanted(
     }
 }
 
+/// Appends an entry, behind which these stand, where it is a scope that holds the address, with or
+/// without lexical blocks.
+fn push_if_wanted<'r, 'a>(
+    pick: &ScopeAt<'_, 'a>,
+    blocks: bool,
+    unit: &'r Unit<'a>,
+    entry: &'r Entry<'a>,
+    behind: &'r [Entry<'a>],
+    lists: &mut KnownRanges,
+    found: &mut Items<Standing<'r, 'a>>,
+) -> Result<(), NoMemory>
+    requires right { AreRight pick.now.sections.now pick.now.address lists.old }
+    ensures right { AreRight pick.now.sections.now pick.now.address lists.new }
+    ensures found { OnOk result (found.new ≡ found.old
+        ++ filter (is_wanted blocks pick.now.sections.now pick.now.address)
+        (stands unit.now entry.now behind.now ∷ [])) }
+{
+    let standing = Standing::new(unit, entry, behind);
+    if is_wanted(pick, blocks, &standing, lists)? {
+        found.push(standing)?;
+    }
+    Ok(())
+}
+
 /// Appends the scopes among these entries, with or without lexical blocks.
 fn push_scopes<'r, 'a>(
     pick: &ScopeAt<'_, 'a>,
@@ -106,10 +130,7 @@ fn push_scopes<'r, 'a>(
 {
     let mut left = entries;
     'entries: while let [entry, behind @ ..] = left {
-        let standing = Standing::new(unit, entry, behind);
-        if is_wanted(pick, blocks, &standing, lists)? {
-            found.push(standing)?;
-        }
+        push_if_wanted(pick, blocks, unit, entry, behind, lists, found)?;
         left = behind;
     }
     Ok(())
@@ -191,29 +212,6 @@ pub fn inlined_in<'r, 'a>(
     inlined_of(alloc, scopes)
 }
 
-/// Appends an entry, behind which these stand, where it is an inlined subroutine that holds the
-/// address.
-fn push_if_inlined<'r, 'a>(
-    pick: &ScopeAt<'_, 'a>,
-    unit: &'r Unit<'a>,
-    entry: &'r Entry<'a>,
-    behind: &'r [Entry<'a>],
-    lists: &mut KnownRanges,
-    found: &mut Items<Standing<'r, 'a>>,
-) -> Result<(), NoMemory>
-    requires right { AreRight pick.now.sections.now pick.now.address lists.old }
-    ensures right { AreRight pick.now.sections.now pick.now.address lists.new }
-    ensures found { OnOk result (found.new ≡ found.old
-        ++ filter (is_wanted false pick.now.sections.now pick.now.address)
-        (stands unit.now entry.now behind.now ∷ [])) }
-{
-    let standing = Standing::new(unit, entry, behind);
-    if is_wanted(pick, false, &standing, lists)? {
-        found.push(standing)?;
-    }
-    Ok(())
-}
-
 /// How many of these entries, which stand in a unit from a number on, are passed over: none of them
 /// is an inlined subroutine that holds the address.
 fn quiet_among(
@@ -265,7 +263,7 @@ fn push_inlined<'r, 'a>(
             left = entries_from(left, quiet);
             at += quiet;
         } else {
-            push_if_inlined(pick, unit, entry, behind, lists, found)?;
+            push_if_wanted(pick, false, unit, entry, behind, lists, found)?;
             left = behind;
             at += 1;
         }

@@ -101,8 +101,7 @@ fn joined(alloc: Global, left: &[Span], right: &[Span]) -> Result<Vec<Span>, NoM
     ensures { IfOk result (λ spans. definitions.AreJoined left.now right.now spans.items) }
 {
     let both = merged(alloc, left, right)?;
-    let spans = apart(alloc, both.as_slice())?;
-    Ok(spans)
+    apart(alloc, both.as_slice())
 }
 
 /// Whether an address is in one of these, by halving.

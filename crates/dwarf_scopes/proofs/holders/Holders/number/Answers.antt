@@ -1,5 +1,6 @@
 use Rattle.std.proofs.Common.{◌<◌, ◌^◌, ℕ, Option, ap, ◌∙◌, arith}
 use Rattle.std.specs.Prelude.{slice_get, option_and_then}
+use Rattle.std.proofs.lemmas.Result.{IfOk-weaker}
 use Rattle.dwarf_scopes.specs.Ranges.{holds}
 use Rattle.dwarf_scopes.specs.calls.Steps.{answer}
 use Rattle.dwarf_scopes.specs.calls.Numbered.{passes, first_or}
@@ -14,7 +15,6 @@ returns c =
     let s = c.args.sections.now in let a = c.args.address in let xs = c.args.entries.now in let h = c.args.self.now in
     let small : a < 2 ^ 32 = omega arith in
     let test = (λ (i : ℕ). passes (holds s a) (slice_get xs i)) in
-    ap (option_and_then (slice_get xs)) (c.in_ok-number.ensures.is
-    ∙ ap (λ (o : Option ℕ). first_or test o c.as_slice-listed.result.now) c.at-named.ensures
-    ∙ ap (first_or test (answer h.bounded a)) c.as_slice-listed.ensures)
-    ∙ first_is s a xs h small c.requires
+    let same = ap (λ (o : Option ℕ). first_or test o c.as_slice-listed.result.now) c.at-named.ensures ∙ ap (first_or test (answer h.bounded a)) c.as_slice-listed.ensures in
+    let first = first_is s a xs h small c.requires in
+    IfOk-weaker c.first_or.result _ _ (λ number is. ap (option_and_then (slice_get xs)) (is ∙ same) ∙ first) c.first_or.ensures.is
