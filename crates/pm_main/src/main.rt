@@ -1,9 +1,11 @@
 //! The program: the real files, output and devices under the top call.
 #![tactic(auto)]
 
+ghost use Rattle.host_set.specs.Sets.{AreDistinct, names};
+
 use causes::NoMemory;
 use host_devices::{Console, Counter};
-use host_set::DeviceSet;
+use host_set::{DeviceSet, Devices};
 use pm_cli::{Status, post_mortem};
 use pm_outside::{HostFiles, HostOut};
 use std::process::ExitCode;
@@ -22,26 +24,39 @@ fn words(rt: &HostRuntime) -> Result<Vec<String>, NoMemory> {
     }
 }
 
-fn main(rt: HostRuntime) -> ExitCode {
-    let Ok(words) = words(&rt) else {
-        return ExitCode::from(Status::NoMemory.code());
-    };
+/// The answer to the words, with the real files and the real output.
+fn answer(rt: HostRuntime, words: &[String], devices: &mut DeviceSet) -> Status
+    requires { AreDistinct (names (⟦<DeviceSet as Devices>⟧.shown devices.old)) }
+{
+    let alloc = rt.alloc();
+    let mut out = HostOut::new(io::writer(&rt));
+    let mut files = HostFiles::new(alloc, rt);
+    post_mortem(alloc, words, &mut files, &mut out, devices)
+}
+
+/// The answer to the words, with the devices of the program.
+fn with_devices(rt: HostRuntime, words: &[String]) -> Status {
     let alloc = rt.alloc();
     let mut devices = DeviceSet::new(alloc);
     let Ok(console) = Box::new(alloc, Console::new(alloc, Vec::new(alloc))) else {
-        return ExitCode::from(Status::NoMemory.code());
+        return Status::NoMemory;
     };
     if devices.attach(console).is_err() {
-        return ExitCode::from(Status::NoMemory.code());
+        return Status::NoMemory;
     }
     let Ok(counter) = Box::new(alloc, Counter::new(alloc)) else {
-        return ExitCode::from(Status::NoMemory.code());
+        return Status::NoMemory;
     };
     if devices.attach(counter).is_err() {
-        return ExitCode::from(Status::NoMemory.code());
+        return Status::NoMemory;
     }
-    let mut out = HostOut::new(io::writer(&rt));
-    let mut files = HostFiles::new(rt.alloc(), rt);
-    let status = post_mortem(rt.alloc(), &words, &mut files, &mut out, &mut devices);
+    answer(rt, words, &mut devices)
+}
+
+fn main(rt: HostRuntime) -> ExitCode {
+    let status = match words(&rt) {
+        Ok(words) => with_devices(rt, &words),
+        Err(_) => Status::NoMemory,
+    };
     ExitCode::from(status.code())
 }

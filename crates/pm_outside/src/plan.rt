@@ -7,7 +7,7 @@ ghost use Rattle.pm_outside.specs.calls.Memory.{IsToFail, part_of, with_call, wi
 use std::marker::Model;
 
 /// How many bytes of its piece a failing call takes before it fails, all of a shorter one.
-#[derive(Clone, Copy, Debug, PartialEq, Eq)]
+#[derive(Clone, Copy)]
 pub struct Part {
     /// The number of the call, counted from 0.
     pub call: u64,

@@ -10,7 +10,7 @@ use crate::{Files, ReadAnswer};
 use std::alloc::{AllocError, Global};
 
 /// Why a file is not read.
-#[derive(Clone, Copy, Debug, PartialEq, Eq)]
+#[derive(Clone, Copy, PartialEq, Eq)]
 pub enum FileError {
     /// There is no such file.
     Missing,
@@ -36,7 +36,7 @@ const PIECE: usize = 65_536;
 fn zeros(alloc: Global, size: usize) -> Result<Vec<u8>, AllocError>
     ensures { IfOk result (λ piece. vec_len piece ≡ size) }
 {
-    vec![in alloc; 0u8; size]
+    Vec::from_elem(alloc, 0u8, size)
 }
 
 /// All bytes of a file, if they are no more than `limit`.
