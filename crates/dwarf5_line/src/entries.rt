@@ -20,7 +20,7 @@ use std::alloc::Global;
 use wasm_bytes::{ItemFault, Malformed, Reader, Run};
 
 /// A content type and its form.
-#[derive(Clone, Copy, Debug, PartialEq, Eq)]
+#[derive(Clone, Copy)]
 pub struct Pair {
     pub kind: u64,
     pub form: u64,

@@ -11,7 +11,7 @@ pub type Pairs = Items<Pair>;
 pub type Abbrevs = Table<Abbrev>;
 
 /// An attribute, and the form in which entries hold its value, by their codes.
-#[derive(Clone, Copy, Debug, PartialEq, Eq)]
+#[derive(Clone, Copy)]
 pub struct Pair {
     pub attribute: u64,
     pub form: u64,

@@ -9,7 +9,7 @@ use arrayvec::ArrayVec;
 use std::marker::Model;
 
 /// The frame base that an expression counts from.
-#[derive(Clone, Copy, Debug, PartialEq, Eq)]
+#[derive(Clone, Copy, PartialEq, Eq)]
 pub enum Base {
     /// At this address.
     At(u32),
@@ -20,7 +20,7 @@ pub enum Base {
 }
 
 /// Where a piece of a value is.
-#[derive(Clone, Copy, Debug, PartialEq, Eq)]
+#[derive(Clone, Copy, PartialEq, Eq)]
 pub enum PiecePlace {
     /// The piece is this number itself.
     Value(u64),
@@ -37,7 +37,7 @@ impl Default for PiecePlace {
 }
 
 /// A piece of a value (DWARF 4 section 2.6.1.2).
-#[derive(Clone, Copy, Debug, Default, PartialEq, Eq)]
+#[derive(Clone, Copy, Default, PartialEq, Eq)]
 pub struct Piece {
     /// In bytes.
     pub size: u64,

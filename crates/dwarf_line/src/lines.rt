@@ -6,7 +6,7 @@ use pm_text::Items;
 use wasm_bytes::Run;
 
 /// A row of the line table (DWARF 4 section 6.2.2), with the registers that are used.
-#[derive(Clone, Copy, Debug, PartialEq, Eq)]
+#[derive(Clone, Copy, PartialEq, Eq)]
 pub struct Row {
     /// The code address of the first instruction.
     pub address: u32,

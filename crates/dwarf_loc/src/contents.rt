@@ -8,7 +8,7 @@ ghost use Rattle.dwarf_loc.specs.Contents.{span_item, nothing_item};
 use wasm_bytes::{Malformed, Reader};
 
 /// Bytes of a section.
-#[derive(Clone, Copy, Debug, PartialEq, Eq)]
+#[derive(Clone, Copy, PartialEq, Eq)]
 pub struct Span {
     /// The offset of the first one in the section.
     pub at: usize,

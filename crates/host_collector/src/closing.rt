@@ -30,7 +30,7 @@ pub struct Collected<'a> {
 }
 
 /// Why calls have no dump.
-#[derive(Clone, Copy, PartialEq, Eq)]
+#[derive(Clone, Copy)]
 pub enum CloseFault {
     /// The calls are not whole. The call at this index is the first one up to and with which they
     /// begin no whole list; it is the number of the calls where there is none.

@@ -15,7 +15,7 @@ use std::alloc::Global;
 use wasm_syntax::{Reply, Value, Write, Writes};
 
 /// Why a line has no reply.
-#[derive(Clone, Copy, Debug, PartialEq, Eq)]
+#[derive(Clone, Copy, Debug)]
 pub enum LineFault {
     /// It is outside the grammar.
     Outside,

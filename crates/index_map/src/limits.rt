@@ -18,7 +18,7 @@ use pm_text::Items;
 use wasm_syntax::{Body, FuncType, Heights, ModuleParts, Quantity};
 
 /// A quantity that passes its greatest number, and how much there is of it.
-#[derive(Clone, Copy, PartialEq, Eq)]
+#[derive(Clone, Copy)]
 pub struct Excess {
     pub what: Quantity,
     pub count: u64,

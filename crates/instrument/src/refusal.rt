@@ -17,7 +17,7 @@ use wasm_syntax::{Heights, Module, Quantity};
 /// Why a module is not rewritten, the first cause in this order: the first import from the
 /// collector's module; the export that has the name under which the memory is exported; the first
 /// quantity that passes its greatest number, and how much there is of it. Or memory is wanting.
-#[derive(Clone, Copy, PartialEq, Eq)]
+#[derive(Clone, Copy)]
 pub enum InstrFault {
     ImportCollision { index: u32 },
     ExportCollision { index: u32 },

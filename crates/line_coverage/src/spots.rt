@@ -1,7 +1,7 @@
 //! Source lines, and numbers of steps on them.
 
 /// A line of a file of a line program. They are ordered by line program, by file and by line.
-#[derive(Clone, Copy, Debug, PartialEq, Eq, PartialOrd, Ord)]
+#[derive(Clone, Copy, PartialEq, Eq, PartialOrd, Ord)]
 pub struct Spot {
     /// The number of the line program, from 0.
     pub table: usize,
@@ -10,7 +10,7 @@ pub struct Spot {
 }
 
 /// How many steps fell on a line.
-#[derive(Clone, Copy, Debug, PartialEq, Eq)]
+#[derive(Clone, Copy)]
 pub struct LineCount {
     pub spot: Spot,
     pub steps: u64,

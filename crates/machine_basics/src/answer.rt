@@ -4,7 +4,7 @@ ghost use Rattle.std.specs.Prelude.{◌≡◌};
 ghost use Rattle.machine_basics.specs.calls.Traps.{trap_code};
 
 /// Why an instruction traps.
-#[derive(Clone, Copy, Debug, PartialEq, Eq)]
+#[derive(Clone, Copy, PartialEq, Eq)]
 pub enum TrapKind {
     Unreachable,
     DivideByZero,
@@ -41,7 +41,7 @@ impl TrapKind {
 }
 
 /// What performing an instruction did. After a trap or want of memory nothing is changed.
-#[derive(Clone, Copy, Debug, PartialEq, Eq)]
+#[derive(Clone, Copy, PartialEq, Eq)]
 pub enum Performed {
     Done,
     Trap(TrapKind),

@@ -1,7 +1,7 @@
 //! A move between the steps of a run.
 
 /// What a command of a replay asks for.
-#[derive(Clone, Copy, Debug, PartialEq, Eq)]
+#[derive(Clone, Copy, PartialEq, Eq)]
 pub enum Move {
     /// To the step of this number, or to the last one where there are not so many.
     Goto { step: u64 },

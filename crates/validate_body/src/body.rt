@@ -18,7 +18,7 @@ use wasm_syntax::{BlockKind, Body, FuncType, ModuleParts, ValType, read_op};
 
 /// Why a body is refused: at the code offset of the first instruction such that the body up to and
 /// with it begins no well-typed body, or for want of memory.
-#[derive(Clone, Copy, Debug, PartialEq, Eq)]
+#[derive(Clone, Copy, Debug)]
 pub enum BodyFault {
     WrongAt(u32),
     NoMemory,

@@ -9,7 +9,7 @@ use wasm_syntax::ValType;
 
 /// What is known before an instruction in live code: the number of operands of the function, over
 /// all open blocks, and the type of the topmost one, where there is one.
-#[derive(Clone, Copy, Debug, PartialEq, Eq)]
+#[derive(Clone, Copy)]
 pub struct Mark {
     pub height: usize,
     pub top: Option<ValType>,

@@ -2,7 +2,7 @@
 
 use var_values::Mark;
 
-#[derive(Clone, Copy, Debug, PartialEq, Eq)]
+#[derive(Clone, Copy, Debug)]
 pub enum DeadEnd {
     /// A step does not fit, for this reason.
     Marked(Mark),

@@ -12,7 +12,7 @@ pub struct Malformed {
 }
 
 /// Why a value that takes memory is not read.
-#[derive(Clone, Copy, Debug, PartialEq, Eq)]
+#[derive(Clone, Copy, Debug)]
 pub enum ItemFault {
     /// The item at this offset has no reading. Offsets are in bytes from the first byte of the
     /// input.

@@ -9,7 +9,7 @@ use crate::faults::Malformed;
 use crate::reader::Reader;
 
 /// A section without its contents. Offsets are in bytes from the first byte of the input.
-#[derive(Clone, Copy, Debug, PartialEq, Eq)]
+#[derive(Clone, Copy, PartialEq, Eq)]
 pub struct SectionFrame {
     /// From 0, for a custom section, to 11.
     pub id: u8,

@@ -11,7 +11,7 @@ ghost use Rattle.wasm_machine.specs.calls.Starts.{segment_cause};
 use wasm_syntax::{DataSeg, ModuleParts};
 
 /// A segment that passes the end of the table or of the memory, by its index among its kind.
-#[derive(Clone, Copy, Debug, PartialEq, Eq)]
+#[derive(Clone, Copy)]
 pub enum SegmentOut {
     Element { index: u32 },
     Data { index: u32 },

@@ -14,7 +14,7 @@ use wasm_validate::Validated;
 /// Why an entry may not be invoked: no function is exported under its name; or the arguments are
 /// not as many as its parameters, or not of their types; or the host side does not serve the import
 /// of this index, the first such one.
-#[derive(Clone, Copy, Debug, PartialEq, Eq)]
+#[derive(Clone, Copy, PartialEq, Eq)]
 pub enum EntryFault {
     NoExport,
     BadArguments,
