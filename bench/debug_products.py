@@ -325,6 +325,22 @@ def found_commands(size):
     return debugged(entries.done(), *["print v0", f"print v{n - 1}"] * (size // 160))
 
 
+def empty_structure(entries):
+    start = entries.add("structure", b"s\0" + struct.pack("<I", 4))
+    entries.close()
+    return start
+
+
+def commands_on_type(size, make):
+    """Commands that print one variable of a type, beside many entries that no command asks for."""
+    entries = Entries()
+    entries.bytes += (CODES["bounded function"] + NONE) * (size // 10)
+    kind = make(entries)
+    entries.function()
+    entries.variable(kind)
+    return debugged(entries.done(), *["vars", "print v"] * (size // 160))
+
+
 # ---- frames
 
 def frames_of_scopes(size, kind="bounded block", bounds=lambda number: NONE):
@@ -469,6 +485,8 @@ SHAPES = [
     ("commands `vars` over many subprograms", variable_commands),
     ("commands `print` over many variables", print_commands),
     ("commands `print` of the first and the last variable", found_commands),
+    ("commands on a structure beside many entries", lambda size: commands_on_type(size, empty_structure)),
+    ("commands on an enumeration beside many entries", lambda size: commands_on_type(size, lambda entries: enumerators(entries, 0, 20))),
     ("frames over many blocks", frames_of_scopes),
     ("frames over many inlined subroutines", lambda size: frames_of_scopes(size, "bounded inlined")),
     ("frames over inlined subroutines that stand apart", lambda size: frames_of_scopes(size, "bounded inlined", far_bounds)),
