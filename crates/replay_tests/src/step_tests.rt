@@ -407,12 +407,13 @@ fn states_do_not_depend_on_checkpoints(rt: HostRuntime) {
 }
 
 /// A recursion of depth n makes 8 n + 5 steps. From 16 steps on there are 16 checkpoints one step
-/// apart at first, of which one goes for each that is added.
+/// apart at first, of which one goes for each that is added. Behind 37 steps, three gaps are wide, so
+/// that one more goes; behind 245, none is.
 #[test]
-fn sixteen_checkpoints_stay(rt: HostRuntime) {
+fn at_most_sixteen_checkpoints_stay(rt: HostRuntime) {
     let alloc = rt.alloc();
     let short = kept(alloc, 1, 1) == Told::Number(13);
-    let longer = kept(alloc, 4, 1) == Told::Number(16);
+    let longer = kept(alloc, 4, 1) == Told::Number(15);
     let longest = kept(alloc, 30, 1) == Told::Number(16);
     let far = kept(alloc, 30, 1_000) == Told::Number(1);
     assert!(rt; short && longer && longest && far);
