@@ -66,11 +66,14 @@ fn answers_left<'a, W: UnitVersions<'a>>(
     ensures item { IfOk result (λ units. until_end (answer_item sections.now W.versions)
         (length reader.old.block - reader.old.at) reader.old ≡ Ok (units, reader.new)) }
 {
-    let mut units = Vec::new(alloc);
+    let mut units = Items::new(alloc);
     'units: while reader.left() > 0 {
-        units.push(read_answer(alloc, sections, versions, reader)?)?;
+        match read_answer(alloc, sections, versions, reader) {
+            Ok(answer) => units.push(answer)?,
+            Err(NoMemory) => return Err(NoMemory),
+        }
     }
-    Ok(Items::from_vec(units))
+    Ok(units)
 }
 
 /// The units of `.debug_info`, in which references are not settled.

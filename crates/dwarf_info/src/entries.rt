@@ -21,6 +21,7 @@ use crate::growing::Growing;
 use crate::slots::{SlotLists, Slots};
 use crate::value::read_slot;
 use crate::version::UnitVersion;
+use causes::NoMemory;
 use pm_text::Items;
 use std::alloc::Global;
 use wasm_bytes::{ItemFault, Reader};
@@ -61,9 +62,12 @@ pub fn read_own<'c, 'a, V: UnitVersion<'a>>(
     let mut own = Vec::with_capacity(alloc, lists.own_len(start))?;
     let mut list = lists.own_from(start);
     'slots: while let Some(slot) = lists.first(list) {
-        own.push(read_slot::<V>(context, slot, reader)?)?;
         let behind = lists.own_from(lists.rest(list));
         list = behind;
+        match read_slot::<V>(context, slot, reader) {
+            Ok(value) => own.push(value)?,
+            Err(fault) => return Err(ItemFault::At(fault.at)),
+        }
     }
     Ok(Items::from_vec(own))
 }
@@ -80,9 +84,13 @@ pub fn read_attributes<'c, 'a, V: UnitVersion<'a>>(
         (attributes_item (seen V.version V.looked context.now) slots.now reader.old) }
     ensures stays { OnOk result (Stays reader.old reader.new) }
 {
-    let own = slots.read_own::<V>(alloc, context, reader)?;
-    let shared = slots.shared()?;
-    Ok(Attributes::new(shared, own))
+    match slots.read_own::<V>(alloc, context, reader) {
+        Ok(own) => match slots.shared() {
+            Ok(shared) => Ok(Attributes::new(shared, own)),
+            Err(NoMemory) => Err(ItemFault::NoMemory),
+        },
+        Err(fault) => Err(fault),
+    }
 }
 
 /// The end of the innermost list of children.
@@ -186,6 +194,8 @@ pub fn read_entries<'c, 'a, V: UnitVersion<'a>>(
     ensures stays { OnOk result (Stays reader.old reader.new) }
 {
     let mut growing: Growing<'a> = Growing::new(alloc);
-    entries_left::<V>(alloc, context, &mut growing, reader)?;
-    Ok(growing.entries)
+    match entries_left::<V>(alloc, context, &mut growing, reader) {
+        Ok(()) => Ok(growing.entries),
+        Err(fault) => Err(fault),
+    }
 }

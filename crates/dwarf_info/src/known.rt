@@ -7,9 +7,9 @@ ghost use Rattle.dwarf_info.specs.Sections.{greatest_section};
 ghost use Rattle.dwarf_info.specs.calls.Pairs.{Pair, IsRight, Knows, KnowsAll, IsInFront};
 
 use crate::form::Slot;
-use crate::marks::{Marks, marked_pairs, pairs_of};
+use crate::marks::{Mark, marked_pairs, pairs_of};
 use crate::sections::Sections5;
-use crate::slots::SlotLists;
+use crate::slots::{SlotLists, shared};
 use crate::version::UnitVersion;
 use causes::NoMemory;
 use std::alloc::Global;
@@ -57,8 +57,10 @@ impl GrowingPairs {
             → IsRight pair section self.old.lists at pairs
             → Knows pair section self.new.lists (get nat_cmp self.new.known)) }
     {
-        self.known.insert(at, pairs)?;
-        Ok(())
+        match self.known.insert(at, pairs) {
+            Ok(_) => Ok(()),
+            Err(_) => Err(NoMemory),
+        }
     }
 }
 
@@ -116,26 +118,24 @@ fn learn<'a, V: UnitVersion<'a>>(
 
 /// Reads the pairs at marked offsets, the last one first.
 fn learn_all<'a, V: UnitVersion<'a>>(
-    alloc: Global,
     section: &'a [u8],
-    marks: &[bool],
-) -> Result<GrowingPairs, NoMemory>
+    marks: &[Mark],
+    growing: &mut GrowingPairs,
+) -> Result<(), NoMemory>
     requires short { length section.now ≤ greatest_section }
     requires marks { length marks.now ≤ length section.now + 1 }
-    ensures { IfOk result (λ all. Knows V.pair section.now all.lists (get nat_cmp all.known)) }
+    requires knows { Knows V.pair section.now growing.old.lists (get nat_cmp growing.old.known) }
+    ensures { OnOk result (Knows V.pair section.now growing.new.lists
+        (get nat_cmp growing.new.known)) }
 {
-    let mut growing = GrowingPairs {
-        lists: SlotLists::new(alloc),
-        known: BTreeMap::new(alloc),
-    };
     let mut left = marks.len();
     'marks: while left > 0 {
         left -= 1;
-        if marks[left] {
-            learn::<V>(section, &mut growing, left)?;
+        if marks[left].pair {
+            learn::<V>(section, growing, left)?;
         }
     }
-    Ok(growing)
+    Ok(())
 }
 
 /// Keeps what the pairs from an offset on are, where they were learned.
@@ -150,10 +150,10 @@ fn keep_learned(
         → Knows pair section growing.now.lists (get nat_cmp known.new)) }
 {
     match growing.kept_at(at) {
-        Some(pairs) => {
-            known.insert(at, pairs)?;
-            Ok(())
-        }
+        Some(pairs) => match known.insert(at, pairs) {
+            Ok(_) => Ok(()),
+            Err(_) => Err(NoMemory),
+        },
         None => Ok(()),
     }
 }
@@ -184,7 +184,7 @@ fn known_of_rows(
     alloc: Global,
     section: &[u8],
     growing: &GrowingPairs,
-    marks: &[bool],
+    marks: &[Mark],
 ) -> Result<BTreeMap<u64, PairsAt>, NoMemory>
     requires marks { length marks.now ≤ length section.now + 1 }
     ensures { IfOk result (λ known. (pair : Pair) (section : List ℕ)
@@ -195,7 +195,7 @@ fn known_of_rows(
     let mut left = marks.len();
     'marks: while left > 0 {
         left -= 1;
-        if marks[left] {
+        if marks[left].row {
             keep_row(section, growing, left, &mut known)?;
         }
     }
@@ -208,35 +208,56 @@ fn shared_pairs(
     all: GrowingPairs,
     known: BTreeMap<u64, PairsAt>,
 ) -> Result<KnownPairs, NoMemory>
-    ensures lists { IfOk result (λ pairs. pairs.lists.value ≡ all.lists) }
-    ensures known { IfOk result (λ pairs. pairs.known ≡ known) }
+    ensures { IfOk result (λ pairs. (pair : Pair) (section : List ℕ)
+        → Knows pair section all.lists (get nat_cmp known)
+        → Knows pair section pairs.lists.value (get nat_cmp pairs.known)) }
 {
     let GrowingPairs {
         lists,
         known: _learned,
     } = all;
-    match Rc::new(alloc, lists) {
+    match shared(alloc, lists) {
         Ok(lists) => Ok(KnownPairs { lists, known }),
-        Err(_) => Err(NoMemory),
+        Err(NoMemory) => Err(NoMemory),
     }
+}
+
+/// Reads the pairs at marked offsets, and hands out what those of rows are.
+fn learned_rows<'a, V: UnitVersion<'a>>(
+    alloc: Global,
+    section: &'a [u8],
+    marks: &[Mark],
+    growing: &mut GrowingPairs,
+) -> Result<BTreeMap<u64, PairsAt>, NoMemory>
+    requires short { length section.now ≤ greatest_section }
+    requires marks { length marks.now ≤ length section.now + 1 }
+    requires knows { Knows V.pair section.now growing.old.lists (get nat_cmp growing.old.known) }
+    ensures { IfOk result (λ known. Knows V.pair section.now growing.new.lists
+        (get nat_cmp known)) }
+{
+    learn_all::<V>(section, marks, growing)?;
+    known_of_rows(alloc, section, growing, marks)
 }
 
 /// The pairs of rows at marked offsets.
 fn pairs_at<'a, V: UnitVersion<'a>>(
     alloc: Global,
     section: &'a [u8],
-    marks: &Marks,
+    marks: &[Mark],
 ) -> Result<KnownPairs, NoMemory>
     requires short { length section.now ≤ greatest_section }
-    requires rows { length marks.now.rows ≤ length section.now + 1 }
-    requires pairs { length marks.now.pairs ≤ length section.now + 1 }
+    requires marks { length marks.now ≤ length section.now + 1 }
     ensures { IfOk result (λ all. Knows V.pair section.now all.lists.value
         (get nat_cmp all.known)) }
 {
-    let all = learn_all::<V>(alloc, section, marks.pairs.as_slice())?;
-    let known = known_of_rows(alloc, section, &all, marks.rows.as_slice())?;
-    let pairs = shared_pairs(alloc, all, known)?;
-    Ok(pairs)
+    let mut growing = GrowingPairs {
+        lists: SlotLists::new(alloc),
+        known: BTreeMap::new(alloc),
+    };
+    match learned_rows::<V>(alloc, section, marks, &mut growing) {
+        Ok(known) => shared_pairs(alloc, growing, known),
+        Err(NoMemory) => Err(NoMemory),
+    }
 }
 
 impl KnownPairs {
@@ -249,9 +270,10 @@ impl KnownPairs {
         ensures { IfOk result (λ all. KnowsAll V.pair sections.now all) }
     {
         let section = sections.abbreviations();
-        let marks = marked_pairs::<V>(alloc, sections)?;
-        let pairs = pairs_at::<V>(alloc, section, &marks)?;
-        Ok(pairs)
+        match marked_pairs::<V>(alloc, sections) {
+            Ok(marks) => pairs_at::<V>(alloc, section, marks.as_slice()),
+            Err(NoMemory) => Err(NoMemory),
+        }
     }
 
     /// What the pairs of a row that begin at an offset are, where it is known.

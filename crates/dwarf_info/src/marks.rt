@@ -9,33 +9,45 @@ use crate::version::UnitVersion;
 use causes::NoMemory;
 use dwarf_abbrev::read_flag;
 use dwarf_bytes::{number, open_unit};
-use pm_text::Items;
 use std::alloc::Global;
 use wasm_bytes::{Malformed, Reader};
 
-/// Offsets of a section where something may begin.
-#[derive(Drop)]
-pub struct Marks {
+/// What may begin at an offset of a section.
+#[derive(Clone, Copy)]
+pub struct Mark {
     /// Whether a row does.
-    pub rows: Items<bool>,
+    pub row: bool,
     /// Whether a pair does.
-    pub pairs: Items<bool>,
+    pub pair: bool,
 }
 
 /// So many offsets, of which none is marked.
-fn unmarked(alloc: Global, count: usize) -> Result<Vec<bool>, NoMemory>
+fn unmarked(alloc: Global, count: usize) -> Result<Vec<Mark>, NoMemory>
     ensures { IfOk result (λ marks. length marks.items ≡ count) }
 {
-    let marks = vec![in alloc; false; count]?;
+    let none = Mark {
+        row: false,
+        pair: false,
+    };
+    let marks = vec![in alloc; none; count]?;
     Ok(marks)
 }
 
-/// Marks an offset of a section.
-fn mark(marks: &mut Vec<bool>, at: u64)
+/// Marks an offset of a section, where a row may begin.
+fn mark_row(marks: &mut Vec<Mark>, at: u64)
     ensures { length marks.new.items ≡ length marks.old.items }
 {
     if at < marks.len() as u64 {
-        marks[at as usize] = true;
+        marks[at as usize].row = true;
+    }
+}
+
+/// Marks an offset of a section, where a pair may begin.
+fn mark_pair(marks: &mut Vec<Mark>, at: u64)
+    ensures { length marks.new.items ≡ length marks.old.items }
+{
+    if at < marks.len() as u64 {
+        marks[at as usize].pair = true;
     }
 }
 
@@ -46,8 +58,8 @@ fn table_of<'a, V: UnitVersion<'a>>(unit: &mut Reader<'a>) -> Result<u64, Malfor
 }
 
 /// Marks where the tables of units begin.
-fn mark_tables<'a, V: UnitVersion<'a>>(info: &'a [u8], rows: &mut Vec<bool>)
-    ensures { length rows.new.items ≡ length rows.old.items }
+fn mark_tables<'a, V: UnitVersion<'a>>(info: &'a [u8], marks: &mut Vec<Mark>)
+    ensures { length marks.new.items ≡ length marks.old.items }
 {
     let mut reader = Reader::new(info);
     'units: while reader.left() > 0 {
@@ -55,7 +67,7 @@ fn mark_tables<'a, V: UnitVersion<'a>>(info: &'a [u8], rows: &mut Vec<bool>)
             return;
         };
         if let Ok(at) = table_of::<V>(&mut unit) {
-            mark(rows, at);
+            mark_row(marks, at);
         }
     }
 }
@@ -71,33 +83,44 @@ pub fn pairs_of(row: &mut Reader<'_>) -> Result<Option<u64>, Malformed> {
 }
 
 /// Marks where the pairs of a row begin.
-fn mark_row(section: &[u8], at: usize, pairs: &mut Vec<bool>)
+fn mark_behind_row(section: &[u8], at: usize, marks: &mut Vec<Mark>)
     requires { at ≤ length section.now }
-    ensures { length pairs.new.items ≡ length pairs.old.items }
+    ensures { length marks.new.items ≡ length marks.old.items }
 {
     if let Ok(Some(at)) = pairs_of(&mut Reader::starting_at(section, at)) {
-        mark(pairs, at);
+        mark_pair(marks, at);
     }
 }
 
 /// Marks what stands behind a pair: another one, or a row behind the end mark.
-fn mark_pair<'a, V: UnitVersion<'a>>(
-    section: &'a [u8],
-    at: usize,
-    rows: &mut Vec<bool>,
-    pairs: &mut Vec<bool>,
-)
+fn mark_behind_pair<'a, V: UnitVersion<'a>>(section: &'a [u8], at: usize, marks: &mut Vec<Mark>)
     requires { at ≤ length section.now }
-    ensures rows { length rows.new.items ≡ length rows.old.items }
-    ensures pairs { length pairs.new.items ≡ length pairs.old.items }
+    ensures { length marks.new.items ≡ length marks.old.items }
 {
     let mut reader = Reader::starting_at(section, at);
     let pair = V::read_pair(&mut reader);
     let next = reader.at() as u64;
     match pair {
-        Ok(Some(_)) => mark(pairs, next),
-        Ok(None) => mark(rows, next),
+        Ok(Some(_)) => mark_pair(marks, next),
+        Ok(None) => mark_row(marks, next),
         Err(_) => {}
+    }
+}
+
+/// Marks where pairs begin, from the rows that are marked on.
+fn mark_all<'a, V: UnitVersion<'a>>(section: &'a [u8], marks: &mut Vec<Mark>)
+    requires { length marks.old.items ≡ length section.now + 1 }
+    ensures { length marks.new.items ≡ length marks.old.items }
+{
+    let mut at = 0;
+    'offsets: while at < marks.len() {
+        if marks[at].row {
+            mark_behind_row(section, at, marks);
+        }
+        if marks[at].pair {
+            mark_behind_pair::<V>(section, at, marks);
+        }
+        at += 1;
     }
 }
 
@@ -105,40 +128,18 @@ fn mark_pair<'a, V: UnitVersion<'a>>(
 pub fn marked_pairs<'a, V: UnitVersion<'a>>(
     alloc: Global,
     sections: &Sections5<'a>,
-) -> Result<Marks, NoMemory>
+) -> Result<Vec<Mark>, NoMemory>
     requires { length sections.now.base.abbreviations ≤ greatest_section }
-    ensures rows { IfOk result (λ marks. length marks.rows
-        ≡ length sections.now.base.abbreviations + 1) }
-    ensures pairs { IfOk result (λ marks. length marks.pairs
+    ensures { IfOk result (λ marks. length marks.items
         ≡ length sections.now.base.abbreviations + 1) }
 {
     let section = sections.abbreviations();
-    let len = section.len();
-    let mut rows = unmarked(alloc, len + 1)?;
-    let mut pairs = unmarked(alloc, len + 1)?;
-    mark_tables::<V>(sections.base.info, &mut rows);
-    mark_all::<V>(section, &mut rows, &mut pairs);
-    Ok(Marks {
-        rows: Items::from_vec(rows),
-        pairs: Items::from_vec(pairs),
-    })
-}
-
-/// Marks where pairs begin, from the rows that are marked on.
-fn mark_all<'a, V: UnitVersion<'a>>(section: &'a [u8], rows: &mut Vec<bool>, pairs: &mut Vec<bool>)
-    requires rows { length rows.old.items ≡ length section.now + 1 }
-    requires pairs { length pairs.old.items ≡ length section.now + 1 }
-    ensures rows { length rows.new.items ≡ length rows.old.items }
-    ensures pairs { length pairs.new.items ≡ length pairs.old.items }
-{
-    let mut at = 0;
-    'offsets: while at < pairs.len() {
-        if rows[at] {
-            mark_row(section, at, pairs);
+    match unmarked(alloc, section.len() + 1) {
+        Ok(mut marks) => {
+            mark_tables::<V>(sections.base.info, &mut marks);
+            mark_all::<V>(section, &mut marks);
+            Ok(marks)
         }
-        if pairs[at] {
-            mark_pair::<V>(section, at, rows, pairs);
-        }
-        at += 1;
+        Err(NoMemory) => Err(NoMemory),
     }
 }

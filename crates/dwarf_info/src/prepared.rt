@@ -36,13 +36,17 @@ impl<'a> PreparedSections<'a> {
     pub fn new(alloc: Global, sections: &Sections5<'a>) -> Result<Self, NoMemory>
         ensures { IfOk result (λ prepared. prepared ≡ sections.now) }
     {
-        let str = Texts::new(alloc, sections.base.str)?;
-        let line_str = Texts::new(alloc, sections.line_str)?;
-        Ok(PreparedSections {
-            sections: sections.borrowed(),
-            str,
-            line_str,
-        })
+        match Texts::new(alloc, sections.base.str) {
+            Ok(str) => match Texts::new(alloc, sections.line_str) {
+                Ok(line_str) => Ok(PreparedSections {
+                    sections: sections.borrowed(),
+                    str,
+                    line_str,
+                }),
+                Err(NoMemory) => Err(NoMemory),
+            },
+            Err(NoMemory) => Err(NoMemory),
+        }
     }
 
     /// The sections.

@@ -23,9 +23,13 @@ use std::alloc::Global;
 fn settled<'a>(alloc: Global, answers: Items<UnitAnswer<'a>>) -> Result<Units<'a>, NoMemory>
     ensures { IfOk result (λ units. units ≡ settled answers.entry) }
 {
-    let places = Places::of(alloc, answers.as_slice())?;
-    let kept = settled_answers(alloc, &places, answers)?;
-    Ok(Units::new(kept, places))
+    match Places::of(alloc, answers.as_slice()) {
+        Ok(places) => match settled_answers(alloc, &places, answers) {
+            Ok(kept) => Ok(Units::new(kept, places)),
+            Err(NoMemory) => Err(NoMemory),
+        },
+        Err(NoMemory) => Err(NoMemory),
+    }
 }
 
 #[tactic(auto, unfolding(crate::specs::Units::units_of))]
@@ -38,9 +42,10 @@ fn read_prepared<'a, W: UnitVersions<'a>>(
     requires short { length sections.now.base.info ≤ greatest_section }
     ensures { IfOk result (λ units. units ≡ units_of sections.now W.versions) }
 {
-    let answers = read_answers(alloc, sections, versions)?;
-    let units = settled(alloc, answers)?;
-    Ok(units)
+    match read_answers(alloc, sections, versions) {
+        Ok(answers) => settled(alloc, answers),
+        Err(NoMemory) => Err(NoMemory),
+    }
 }
 
 /// The units of `.debug_info`, in order. Those of the given versions are read.
@@ -53,8 +58,26 @@ pub fn read_all<'a, W: UnitVersions<'a>>(
     requires short { length sections.now.base.info ≤ greatest_section }
     ensures { IfOk result (λ units. units ≡ units_of sections.now W.versions) }
 {
-    let prepared = PreparedSections::new(alloc, sections)?;
-    read_prepared(alloc, &prepared, versions)
+    match PreparedSections::new(alloc, sections) {
+        Ok(prepared) => read_prepared(alloc, &prepared, versions),
+        Err(NoMemory) => Err(NoMemory),
+    }
+}
+
+/// The units of `.debug_info`. Those of the given versions are read, if there was memory for them.
+fn read_by<'a, W: UnitVersions<'a> + Drop>(
+    alloc: Global,
+    sections: &Sections5<'a>,
+    versions: Result<W, NoMemory>,
+) -> Result<Units<'a>, NoMemory>
+    requires ready { IfOk versions (W.is_ready sections.now) }
+    requires short { length sections.now.base.info ≤ greatest_section }
+    ensures { IfOk result (λ units. units ≡ units_of sections.now W.versions) }
+{
+    match versions {
+        Ok(mut versions) => read_all(alloc, sections, &mut versions),
+        Err(NoMemory) => Err(NoMemory),
+    }
 }
 
 /// The units of `.debug_info`, of which those of version 4 are read.
@@ -63,8 +86,7 @@ fn read_four<'a>(alloc: Global, sections: &Sections5<'a>) -> Result<Units<'a>, N
     requires abbreviations { length sections.now.base.abbreviations ≤ greatest_section }
     ensures { IfOk result (λ units. units ≡ units_of sections.now only4) }
 {
-    let mut versions = OnlyFour::new(alloc, sections)?;
-    read_all(alloc, sections, &mut versions)
+    read_by(alloc, sections, OnlyFour::new(alloc, sections))
 }
 
 /// The units of `.debug_info`, in order (DWARF 4 section 7.5.1). Those of version 4 are read; in

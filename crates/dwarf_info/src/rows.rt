@@ -13,6 +13,7 @@ use crate::form::{Shape, Slot};
 use crate::known::{KnownPairs, PairsAt};
 use crate::slots::{SlotLists, Slots};
 use crate::version::UnitVersion;
+use causes::NoMemory;
 use dwarf_abbrev::read_flag;
 use pm_text::Items;
 use std::alloc::Global;
@@ -28,12 +29,12 @@ fn slots_left<'a, V: UnitVersion<'a>>(
         (ended_from V.pair (length reader.old.block + 1 - reader.old.at) reader.old) }
     ensures stays { OnOk result (Stays reader.old reader.new) }
 {
-    let mut slots = Vec::new(alloc);
+    let mut slots = Items::new(alloc);
     'slots: loop {
         // The place is inside its block, so that fewer bytes are left behind it.
         let _at = reader.at();
         let Some(slot) = V::read_pair(reader)? else {
-            return Ok(Items::from_vec(slots));
+            return Ok(slots);
         };
         slots.push(slot)?;
     }
@@ -48,8 +49,13 @@ fn read_anew<'a, V: UnitVersion<'a>>(
     ensures item { Gives result reader.new (ended_item V.pair reader.old) }
     ensures stays { OnOk result (Stays reader.old reader.new) }
 {
-    let slots = slots_left::<V>(alloc, reader)?;
-    Ok(Slots::new(alloc, slots.as_slice())?)
+    match slots_left::<V>(alloc, reader) {
+        Ok(slots) => match Slots::new(alloc, slots.as_slice()) {
+            Ok(shared) => Ok(shared),
+            Err(NoMemory) => Err(ItemFault::NoMemory),
+        },
+        Err(fault) => Err(fault),
+    }
 }
 
 /// Pairs that are known, whose end mark the reader then stands behind.
@@ -110,13 +116,15 @@ fn read_shape<'a, V: UnitVersion<'a>>(
     }
     let tag = reader.u64()?;
     let children = read_flag(reader)?;
-    let slots = read_slots::<V>(alloc, section, pairs, reader)?;
-    Ok(Some(Shape {
-        code,
-        tag,
-        children,
-        slots,
-    }))
+    match read_slots::<V>(alloc, section, pairs, reader) {
+        Ok(slots) => Ok(Some(Shape {
+            code,
+            tag,
+            children,
+            slots,
+        })),
+        Err(fault) => Err(fault),
+    }
 }
 
 /// The first row of the table at a place, or None at its end.

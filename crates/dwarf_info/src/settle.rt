@@ -74,9 +74,9 @@ pub fn settled_answers<'a>(
     ensures { IfOk result (λ kept. kept
         ≡ map (answer_by (meets (placed places.now))) answers.entry) }
 {
-    let mut kept = Vec::new(alloc);
+    let mut kept = Items::new(alloc);
     for answer in answers.into_vec() {
         kept.push(settled_answer(places, answer))?;
     }
-    Ok(Items::from_vec(kept))
+    Ok(kept)
 }

@@ -315,13 +315,23 @@ fn add_slots(lists: &mut SlotLists, slots: &[Slot]) -> Result<u32, NoMemory>
     Ok(list)
 }
 
+/// A value that several share.
+pub fn shared<T: Drop>(alloc: Global, value: T) -> Result<Rc<T>, NoMemory>
+    ensures { IfOk result (λ shared. shared.value ≡ value) }
+{
+    match Rc::new(alloc, value) {
+        Ok(shared) => Ok(shared),
+        Err(_) => Err(NoMemory),
+    }
+}
+
 /// What entries share of a list.
 fn shared_row(alloc: Global, lists: Rc<SlotLists>, list: u32) -> Result<Slots, NoMemory>
     ensures { IfOk result (λ slots. slots ≡ list_of lists.value list) }
 {
-    match Rc::new(alloc, SharedSlots { lists, list }) {
+    match shared(alloc, SharedSlots { lists, list }) {
         Ok(row) => Ok(Slots { row }),
-        Err(_) => Err(NoMemory),
+        Err(NoMemory) => Err(NoMemory),
     }
 }
 
@@ -331,10 +341,12 @@ impl Slots {
         ensures { IfOk result (λ shared. shared ≡ slots.now) }
     {
         let mut lists = SlotLists::new(alloc);
-        let list = add_slots(&mut lists, slots)?;
-        match Rc::new(alloc, lists) {
-            Ok(lists) => shared_row(alloc, lists, list),
-            Err(_) => Err(NoMemory),
+        match add_slots(&mut lists, slots) {
+            Ok(list) => match shared(alloc, lists) {
+                Ok(lists) => shared_row(alloc, lists, list),
+                Err(NoMemory) => Err(NoMemory),
+            },
+            Err(NoMemory) => Err(NoMemory),
         }
     }
 

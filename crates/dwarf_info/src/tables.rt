@@ -59,11 +59,7 @@ impl Tables {
     fn known(&self, at: u64) -> Option<Option<u32>>
         ensures { result ≡ kept_at self.now at }
     {
-        match self.read.get(&at) {
-            Some(Some(table)) => Some(Some(*table)),
-            Some(None) => Some(None),
-            None => None,
-        }
+        self.read.get(&at).copied()
     }
 
     /// Keeps which table stands at an offset.
@@ -196,8 +192,7 @@ fn read_table<'a, V: UnitVersion<'a>>(
 {
     let mut rows = Items::new(alloc);
     let stop = read_rows::<V>(alloc, sections, section, pairs, tables, at, &mut rows)?;
-    let table = keep_rows::<V>(sections, tables, at as u64, &mut rows, stop)?;
-    Ok(table)
+    keep_rows::<V>(sections, tables, at as u64, &mut rows, stop)
 }
 
 /// `.debug_abbrev`
@@ -227,6 +222,5 @@ pub fn select<'a, V: UnitVersion<'a>>(
     if at > section.len() as u64 {
         return Ok(None);
     }
-    let table = read_table::<V>(alloc, sections, section, pairs, tables, at as usize)?;
-    Ok(table)
+    read_table::<V>(alloc, sections, section, pairs, tables, at as usize)
 }

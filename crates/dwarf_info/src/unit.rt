@@ -59,8 +59,10 @@ fn read_index<'a, V: UnitVersion<'a>>(
         index: None,
     };
     let mut growing: Growing<'a> = Growing::new(alloc);
-    step::<V>(alloc, &context, &mut growing, &mut reader.fork())?;
-    Ok(V::index(root(&growing.entries)))
+    match step::<V>(alloc, &context, &mut growing, &mut reader.fork()) {
+        Ok(()) => Ok(V::index(root(&growing.entries))),
+        Err(fault) => Err(fault),
+    }
 }
 
 /// The entries of a unit, by a table of abbreviations.
@@ -77,15 +79,19 @@ fn read_rooted<'a, V: UnitVersion<'a>>(
         (rooted_item sections.now V.version origin (list_of tables.now table) reader.old) }
     ensures stays { OnOk result (Stays reader.old reader.new) }
 {
-    let index = read_index::<V>(alloc, sections, origin, tables, table, reader)?;
-    let context: UnitContext<'_, 'a, V::Index> = UnitContext {
-        sections,
-        origin,
-        tables,
-        table,
-        index: Some(index),
-    };
-    read_entries::<V>(alloc, &context, reader)
+    match read_index::<V>(alloc, sections, origin, tables, table, reader) {
+        Ok(index) => {
+            let context: UnitContext<'_, 'a, V::Index> = UnitContext {
+                sections,
+                origin,
+                tables,
+                table,
+                index: Some(index),
+            };
+            read_entries::<V>(alloc, &context, reader)
+        }
+        Err(fault) => Err(fault),
+    }
 }
 
 /// What stands behind the version of a unit.
@@ -110,12 +116,14 @@ pub fn read_body<'a, V: UnitVersion<'a>>(
     match select::<V>(alloc, sections, pairs, tables, offset)? {
         Some(table) => {
             let lists = &tables.lists;
-            let entries = read_rooted::<V>(alloc, sections, origin, lists, table, reader)?;
-            Ok(Unit {
-                at: origin,
-                version,
-                entries,
-            })
+            match read_rooted::<V>(alloc, sections, origin, lists, table, reader) {
+                Ok(entries) => Ok(Unit {
+                    at: origin,
+                    version,
+                    entries,
+                }),
+                Err(fault) => Err(fault),
+            }
         }
         None => Err(ItemFault::At(reader.at())),
     }
@@ -174,7 +182,11 @@ pub fn read_whole<'a, W: UnitVersions<'a>>(
     ensures item { Gives result reader.new (whole_unit sections.now W.versions origin reader.old) }
     ensures ready { W.is_ready sections.now versions.new }
 {
-    let unit = read_unit(alloc, sections, versions, origin, reader)?;
-    let _zeros = read_padding(reader)?;
-    Ok(unit)
+    match read_unit(alloc, sections, versions, origin, reader) {
+        Ok(unit) => {
+            let _zeros = read_padding(reader)?;
+            Ok(unit)
+        }
+        Err(fault) => Err(fault),
+    }
 }

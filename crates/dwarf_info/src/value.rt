@@ -41,10 +41,10 @@ fn meant<'c, 'a, V: UnitVersion<'a>>(
         Meaning::Constant => Some(AttrValue::Constant(number)),
         Meaning::Flag => Some(AttrValue::Flag(number != 0)),
         Meaning::Offset => Some(AttrValue::Offset(number as u32)),
-        Meaning::TextIn(section) => {
-            let text = context.sections.text_at(section, number)?;
-            Some(AttrValue::Text(text))
-        }
+        Meaning::TextIn(section) => match context.sections.text_at(section, number) {
+            Some(text) => Some(AttrValue::Text(text)),
+            None => None,
+        },
         Meaning::InUnit => Some(refers_to(context.origin, number)),
         Meaning::InSection => Some(refers_to(0, number)),
         Meaning::IndexOf(table) => match &context.index {
@@ -123,14 +123,23 @@ fn read_plain<'c, 'a, V: UnitVersion<'a>>(
 {
     match form {
         Form::Number(width, meaning) => read_meant::<V>(context, width, meaning, reader),
-        Form::Block(width) => Ok(AttrValue::Block(read_block(width, reader)?)),
-        Form::Text => Ok(AttrValue::Text(Run::new(text(reader)?))),
-        Form::Signed => Ok(AttrValue::Signed(reader.s64()?)),
+        Form::Block(width) => match read_block(width, reader) {
+            Ok(bytes) => Ok(AttrValue::Block(bytes)),
+            Err(fault) => Err(fault),
+        },
+        Form::Text => match text(reader) {
+            Ok(bytes) => Ok(AttrValue::Text(Run::new(bytes))),
+            Err(fault) => Err(fault),
+        },
+        Form::Signed => match reader.s64() {
+            Ok(number) => Ok(AttrValue::Signed(number)),
+            Err(fault) => Err(fault),
+        },
         Form::Present => Ok(AttrValue::Flag(true)),
-        Form::Skipped(bytes) => {
-            reader.run(bytes as usize)?;
-            Ok(AttrValue::Other)
-        }
+        Form::Skipped(bytes) => match reader.run(bytes as usize) {
+            Ok(_) => Ok(AttrValue::Other),
+            Err(fault) => Err(fault),
+        },
         Form::Implicit(value) => Ok(AttrValue::Signed(value)),
         Form::Indirect => Err(Malformed { at: reader.at() }),
     }

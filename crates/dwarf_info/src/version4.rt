@@ -157,11 +157,13 @@ impl OnlyFour {
         ensures { IfOk result (λ v. KnowsAll pair4 sections.now v.pairs
             × Keeps rows4 sections.now v.tables) }
     {
-        let pairs = KnownPairs::of::<Four>(alloc, sections)?;
-        Ok(OnlyFour {
-            pairs,
-            tables: Tables::new(alloc),
-        })
+        match KnownPairs::of::<Four>(alloc, sections) {
+            Ok(pairs) => Ok(OnlyFour {
+                pairs,
+                tables: Tables::new(alloc),
+            }),
+            Err(NoMemory) => Err(NoMemory),
+        }
     }
 }
 

@@ -7,7 +7,7 @@ use Rattle.dwarf_info.proofs.answers.answers_left.Given as goal
 
 abbrev pub invariant-units : goal.invariant-units
 invariant-units g l = record {
-  so_far : (n : ℕ) × (length l.reader.block - l.reader.at ≤ n) × (until_end (answer_item l.fn.sections g.W.UnitVersions.versions) (length l.initial.reader.block - l.initial.reader.at) l.initial.reader ≡ (until_end (answer_item l.fn.sections g.W.UnitVersions.versions) n l.reader >>= in_front l.units.items));
+  so_far : (n : ℕ) × (length l.reader.block - l.reader.at ≤ n) × (until_end (answer_item l.fn.sections g.W.UnitVersions.versions) (length l.initial.reader.block - l.initial.reader.at) l.initial.reader ≡ (until_end (answer_item l.fn.sections g.W.UnitVersions.versions) n l.reader >>= in_front l.units));
   stays : Stays l.initial.reader l.reader;
   ready : g.W.UnitVersions.is_ready l.fn.sections l.versions;
 }

@@ -1,7 +1,6 @@
 use Rattle.std.proofs.Common.{◌≡◌, List, [], ◌∷◌, Some, None, length, length-append, ap, sym, ◌∙◌, arith}
 use Rattle.std.specs.Prelude.{slice_get}
 use Rattle.std.specs.Option.{option_copied}
-use Rattle.std.proofs.lemmas.Result.{err_from_is_err_and}
 use Rattle.wasm_bytes.specs.declared.faults.ItemFault.TheVariants as faults
 use Rattle.wasm_bytes.proofs.Loops.{in_front, one_more, no_more, left_fails}
 use Rattle.dwarf_abbrev.specs.calls.Shared.{list_of}
@@ -28,25 +27,24 @@ slots-preserved g c =
     let e : slice_get (list_of lists c.slots.list) 0 ≡ Some s = sym c.first.ensures ∙ ap (λ o. option_copied o) c.in-Some.is in
     let is = own_next lists c.slots.list c.rest.result c.own_from-behind.result s c.slots.invariant.begins e c.rest.ensures c.own_from-behind.ensures.same in
     let left = own_slots (list_of lists c.own_from-behind.result) in
-    let on = each_one f s left (own_slots (list_of lists c.slots.list)) c.slots.reader c.read_slot.new.reader c.in_ok-read_slot.field-0 is c.in_ok-read_slot.ensures.item in
+    let on = each_one f s left (own_slots (list_of lists c.slots.list)) c.slots.reader c.read_slot.new.reader c.in-Ok.value is c.in-Ok.ensures.item in
     record {
-      so_far = rw c.in_ok-push.ensures.items (one_more _ _ c.slots.own.items c.in_ok-read_slot.field-0 (rw on at c.slots.invariant.so_far));
+      so_far = rw c.in_ok-push-in-Ok.ensures.items (one_more _ _ c.slots.own.items c.in-Ok.value (rw on at c.slots.invariant.so_far));
       begins = c.own_from-behind.ensures.begins;
-      count = omega (arith, c.slots.invariant.count, ap length is, ap length c.in_ok-push.ensures.items, length-append c.slots.own.items (c.in_ok-read_slot.field-0 ∷ []));
+      count = omega (arith, c.slots.invariant.count, ap length is, ap length c.in_ok-push-in-Ok.ensures.items, length-append c.slots.own.items (c.in-Ok.value ∷ []));
       stays = grind arith;
     }
 
-pub returns-in_err-read_slot-clause-item : goal.returns-in_err-read_slot-clause-item
+pub returns-in-Err-clause-item : goal.returns-in-Err-clause-item
 unfolding own_item
-returns-in_err-read_slot-clause-item g c =
+returns-in-Err-clause-item g c =
     let f = slot_value (seen g.V.UnitVersion.version g.V.UnitVersion.looked c.args.context.now) in
     let lists = c.args.lists.now in
     let s = c.in-Some.slot.now in
-    let p = err_from_is_err_and c.from_residual-in_err-read_slot.result c.from_residual-in_err-read_slot.ensures.1 in
     let e : slice_get (list_of lists c.slots.list) 0 ≡ Some s = sym c.first.ensures ∙ ap (λ o. option_copied o) c.in-Some.is in
     let is = own_first (list_of lists c.slots.list) s c.slots.invariant.begins e in
-    let failing = each_stops f s _ (own_slots (list_of lists c.slots.list)) c.slots.reader c.in_err-read_slot.field-0.0.at is c.in_err-read_slot.ensures.item in
-    rw (p.1, p.2) (left_fails _ _ (in_front c.slots.own.items) (faults.At c.in_err-read_slot.field-0.0.at) c.slots.invariant.so_far failing)
+    let failing = each_stops f s _ (own_slots (list_of lists c.slots.list)) c.slots.reader c.in-Err.fault.at is c.in-Err.ensures.item in
+    (left_fails _ _ (in_front c.slots.own.items) (faults.At c.in-Err.fault.at) c.slots.invariant.so_far failing)
 
 pub returns-clause-count : goal.returns-clause-count
 returns-clause-count g c =

@@ -12,7 +12,7 @@ returns-in_err-slot-clause-item g c =
     let e = faults.At c.in_err-slot.field-0.0.at in
     let n : s.0 ≡ suc (s.0 - 1) = omega (arith, s.1, c.at-at.ensures.inside) in
     let failing = ended_fails g.V.UnitVersion.pair (s.0 - 1) c.slots.reader e c.in_err-slot.ensures.item in
-    rw (p.1, p.2) (left_fails _ _ (in_front c.slots.slots.items) e (rw n at s.2) failing)
+    rw (p.1, p.2) (left_fails _ _ (in_front c.slots.slots) e (rw n at s.2) failing)
 
 pub slots-preserved : goal.slots-preserved
 slots-preserved g c =
@@ -23,7 +23,7 @@ slots-preserved g c =
       so_far = (
         s.0 - 1,
         omega (arith, s.1, c.at-at.ensures.inside, c.in_ok-slot.ensures.moves.0, ap length c.in_ok-slot.ensures.moves.1),
-        rw c.in_ok-push.ensures.items (one_more _ _ c.slots.slots.items c.in-Some.slot (rw on at (rw n at s.2))),
+        rw c.in_ok-push.ensures.ok (one_more _ _ c.slots.slots c.in-Some.slot (rw on at (rw n at s.2))),
       );
       stays = grind arith;
     }
@@ -33,4 +33,4 @@ returns-in_default-clause-item g c =
     let s = c.slots.invariant.so_far in
     let n : s.0 ≡ suc (s.0 - 1) = omega (arith, s.1, c.at-at.ensures.inside) in
     let done = ended_done g.V.UnitVersion.pair (s.0 - 1) c.slots.reader c.read_pair.new.reader (rw c.in_default.is at c.in_ok-slot.ensures.item) in
-    rw c.from_vec.ensures (no_more _ c.slots.slots.items c.read_pair.new.reader (rw done at (rw n at s.2)))
+    no_more _ c.slots.slots c.read_pair.new.reader (rw done at (rw n at s.2))

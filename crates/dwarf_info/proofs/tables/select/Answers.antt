@@ -1,4 +1,5 @@
 use Rattle.std.proofs.Common.{◌<◌, sym, ap, length, arith}
+use Rattle.std.proofs.lemmas.Result.{IfOk-weaker}
 use Rattle.dwarf_info.specs.calls.Keeping.{numbered, rows_of}
 use Rattle.dwarf_info.proofs.RowLaws.{none_of, none_past, table_read}
 use Rattle.dwarf_info.proofs.tables.select.Goals as goal
@@ -11,4 +12,6 @@ returns-then-at-section-clause-table g c =
 
 pub returns-clause-table : goal.returns-clause-table
 returns-clause-table g c =
-    sym (table_read g.V.UnitVersion.version.shapes (rows_of g.V.UnitVersion.pair) c.rows_are_shapes.ensures c.args.sections.now.base.abbreviations c.args.at (numbered c.read_table.new.tables c.in_ok-table.table) c.in_ok-table.ensures.table)
+    IfOk-weaker c.read_table.result _ _
+    (λ table is. sym (table_read g.V.UnitVersion.version.shapes (rows_of g.V.UnitVersion.pair) c.rows_are_shapes.ensures c.args.sections.now.base.abbreviations c.args.at (numbered c.read_table.new.tables table) is))
+    c.read_table.ensures.table
