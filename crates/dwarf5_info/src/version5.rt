@@ -129,11 +129,13 @@ impl Kept {
         requires { length sections.now.base.abbreviations ≤ greatest_section }
         ensures { IfOk result (IsKept V.pair sections.now) }
     {
-        let pairs = KnownPairs::of::<V>(alloc, sections)?;
-        Ok(Kept {
-            pairs,
-            tables: Tables::new(alloc),
-        })
+        match KnownPairs::of::<V>(alloc, sections) {
+            Ok(pairs) => Ok(Kept {
+                pairs,
+                tables: Tables::new(alloc),
+            }),
+            Err(NoMemory) => Err(NoMemory),
+        }
     }
 
     /// What stands behind the version of a unit of this version.
@@ -164,9 +166,13 @@ impl UpToFive {
         requires { length sections.now.base.abbreviations ≤ greatest_section }
         ensures { IfOk result (AreKept sections.now) }
     {
-        let four = Kept::new::<Four>(alloc, sections)?;
-        let five = Kept::new::<Five>(alloc, sections)?;
-        Ok(UpToFive { four, five })
+        match Kept::new::<Four>(alloc, sections) {
+            Ok(four) => match Kept::new::<Five>(alloc, sections) {
+                Ok(five) => Ok(UpToFive { four, five }),
+                Err(NoMemory) => Err(NoMemory),
+            },
+            Err(NoMemory) => Err(NoMemory),
+        }
     }
 }
 
