@@ -1,5 +1,5 @@
 -- Tests one after the other, and what is found in the parts of a list.
-use Rattle.std.proofs.Common.{◌≡◌, ℕ, suc, ◌+◌, ◌<◌, Bool, true, false, List, [], ◌∷◌, ◌++◌, length, drop, get_or, Option, Some, None, refl, sym, ap, ◌∙◌, add-one, drop-cons}
+use Rattle.std.proofs.Common.{◌≡◌, ℕ, suc, ◌+◌, ◌<◌, Bool, true, false, List, [], ◌∷◌, ◌++◌, length, drop, get_or, append_assoc, Option, Some, None, refl, sym, ap, ◌∙◌, add-one, drop-cons}
 use Rattle.std.specs.Option.{option_or}
 use Rattle.std.specs.Prelude.{filter, find, flat_map, reverse, not, ◌&&◌, ◌==◌, if◌then◌else◌}
 use Rattle.std.proofs.lemmas.List.{reverse-append}
@@ -31,6 +31,19 @@ variables_are x = sym (filter_both declares (λ t. t.entry.depth == suc x.entry.
 
 pub last_first : {A : Type 0} (f : A → Bool) (xs : List A) (x : A) → reverse (filter f (xs ++ x ∷ [])) ≡ reverse (filter f (x ∷ [])) ++ reverse (filter f xs)
 last_first f xs x = rw (filter-append f xs (x ∷ [])) (reverse-append (filter f xs) (filter f (x ∷ [])))
+
+-- one more from the last on, which passes or does not
+
+pub last_passes : {A : Type 0} (f : A → Bool) (xs all out more total : List A) (x : A) → all ≡ xs ++ x ∷ [] → f x ≡ true → more ≡ out ++ x ∷ [] → total ≡ out ++ reverse (filter f all) → total ≡ more ++ reverse (filter f xs)
+last_passes {A = A} f xs all out more total x parts passes grown so_far =
+    let one : reverse (filter f (x ∷ [])) ≡ x ∷ [] = rw passes refl in
+    so_far ∙ ap (λ (ys : List A). out ++ reverse (filter f ys)) parts ∙ ap (λ (ys : List A). out ++ ys) (last_first f xs x ∙ ap (λ (ys : List A). ys ++ reverse (filter f xs)) one)
+    ∙ sym (append_assoc out (x ∷ []) (reverse (filter f xs))) ∙ ap (λ (ys : List A). ys ++ reverse (filter f xs)) (sym grown)
+
+pub last_fails : {A : Type 0} (f : A → Bool) (xs all out total : List A) (x : A) → all ≡ xs ++ x ∷ [] → f x ≡ false → total ≡ out ++ reverse (filter f all) → total ≡ out ++ reverse (filter f xs)
+last_fails {A = A} f xs all out total x parts fails so_far =
+    let none : reverse (filter f (x ∷ [])) ≡ [] = rw fails refl in
+    so_far ∙ ap (λ (ys : List A). out ++ reverse (filter f ys)) parts ∙ ap (λ (ys : List A). out ++ ys) (last_first f xs x ∙ ap (λ (ys : List A). ys ++ reverse (filter f xs)) none)
 
 -- ---- those that pass a second test too
 

@@ -229,6 +229,11 @@ Grows es levels = (more : List Level) → AreSized more es → AreSized (levels 
 pub sizes_all : (es : List Entry) (levels : List Level) → Grows es levels → AreSized levels es
 sizes_all es levels so_far = subst (λ (ls : List Level). AreSized ls es) (append-nil levels) (so_far [] tt)
 
+-- one more level
+pub sizes_more : (es : List Entry) (levels after : List Level) (level : Level) → AreParts level.size level.parts es → after ≡ levels ++ level ∷ [] → Grows es levels → Grows es after
+sizes_more es levels after level are grown so_far more rest =
+    subst (λ (ls : List Level). AreSized ls es) (sym (append_assoc levels (level ∷ []) more) ∙ ap (λ (ls : List Level). ls ++ more) (sym grown)) (so_far (level ∷ more) (are, rest))
+
 pub sized_at : (es : List Entry) (levels : List Level) (i : ℕ) (d : Level) → AreSized levels es → i < length levels → AreParts (get_or levels i d).size (get_or levels i d).parts es
 sized_at es [] i d are lt = absurd (omega (arith, lt))
 sized_at es (l ∷ ls) zero d are lt = are.0
@@ -305,10 +310,10 @@ inside_stands es n count behind inside fits lt rest le is =
       fits = omega (arith, fits, len, left, le, lt, ap length rest);
     }
 
-pub stands_there : (u : UnitTree) (n : ℕ) (e other : Entry) (behind : List Entry) → n < length u.entries → e ≡ get_or u.entries n other → behind ≡ drop (n + 1) u.entries
-    → first_standing u (drop n u.entries) ≡ Some (stands u e behind)
-stands_there u n e other behind lt is rest =
-    ap (first_standing u) (first_is u.entries n e other lt is) ∙ ap (λ (xs : List Entry). Some (stands u e xs)) (sym rest)
+pub stands_there : (u : UnitTree) (es : List Entry) (n : ℕ) (e other : Entry) (behind : List Entry) (x : Standing) → es ≡ u.entries → n < length es → e ≡ get_or es n other → behind ≡ drop (n + 1) es
+    → x ≡ stands u e behind → Some x ≡ first_standing u (drop n u.entries)
+stands_there u es n e other behind x all lt is rest stood =
+    sym (ap (λ (fs : List Entry). first_standing u (drop n fs)) (sym all) ∙ ap (first_standing u) (first_is es n e other lt is) ∙ ap (λ (xs : List Entry). Some (stands u e xs)) (sym rest) ∙ ap Some (sym stood))
 
 -- a subprogram and the inlined subroutines in it
 pub by_levels : (s : SectionBytes5) (a : ℕ) (x : Standing) (u : UnitTree) (es : List Entry) (none one all : List Standing) → none ≡ [] → one ≡ none ++ x ∷ [] → u ≡ x.unit → es ≡ entries_inside x

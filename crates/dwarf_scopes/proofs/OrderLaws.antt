@@ -1,5 +1,5 @@
 -- Elements whose numbers fall: where those past a number end, and what is left of two lists that are merged.
-use Rattle.std.proofs.Common.{◌≡◌, ℕ, zero, suc, ◌-◌, ◌<◌, ◌≤◌, true, false, ltb, List, [], ◌∷◌, ◌++◌, length, take, drop, get_or, append_assoc, sym, ap, ◌∙◌, arith}
+use Rattle.std.proofs.Common.{◌≡◌, ℕ, zero, suc, ◌+◌, ◌-◌, ◌<◌, ◌≤◌, true, false, ltb, List, [], ◌∷◌, ◌++◌, length, take, drop, get_or, append_assoc, sym, ap, ◌∙◌, arith, add-one, drop-cons}
 use Rattle.std.specs.List.Sorted.{IsPartitionedBy, IsPartitionPoint}
 use Rattle.std.proofs.lemmas.List.{take_rest}
 
@@ -39,6 +39,15 @@ IsPassed key a xs i = IsPartitionPoint (λ x. ltb a (key x) ≡ true) (λ x. ltb
 
 pub passed_behind : {A : Type 0} (key : A → ℕ) (a : ℕ) (x : A) (xs : List A) (i : ℕ) → IsPassed key a (x ∷ xs) (suc i) → IsPassed key a xs i
 passed_behind key a x xs i p = ((λ k d low high. p.0 (suc k) d (omega arith) (omega (arith, high))), (λ k d low high. p.1 (suc k) d (omega (arith, low)) (omega (arith, high))))
+
+-- ---- one more element of a merge
+
+pub element_left : {A : Type 0} (xs : List A) (i : ℕ) (d : A) → i < length xs → drop i xs ≡ get_or xs i d ∷ drop (i + 1) xs
+element_left xs i d lt = drop-cons xs i d lt ∙ ap (λ (n : ℕ). get_or xs i d ∷ drop n xs) (sym (add-one i))
+
+pub merge_more : {A : Type 0} (out after before behind total : List A) (x : A) → before ≡ x ∷ behind → after ≡ out ++ x ∷ [] → out ++ before ≡ total → after ++ behind ≡ total
+merge_more {A = A} out after before behind total x is grown so_far =
+    ap (λ (l : List A). l ++ behind) grown ∙ append_assoc out (x ∷ []) behind ∙ ap (λ (l : List A). out ++ l) (sym is) ∙ so_far
 
 -- ---- the end of a merge
 

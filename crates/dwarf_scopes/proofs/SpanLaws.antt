@@ -1,10 +1,10 @@
 -- Laws of spans of addresses.
-use Rattle.std.proofs.Common.{◌≡◌, ℕ, zero, suc, ◌<◌, ◌≤◌, Bool, true, false, leb, ltb, List, [], ◌∷◌, ◌++◌, length, drop, get_or, refl, sym, ap, subst, ◌∙◌, arith}
+use Rattle.std.proofs.Common.{◌≡◌, ℕ, zero, suc, ◌+◌, ◌<◌, ◌≤◌, Bool, true, false, leb, ltb, List, [], ◌∷◌, ◌++◌, length, drop, get_or, refl, sym, ap, subst, ◌∙◌, arith}
 use Rattle.std.specs.Prelude.{◌&&◌, ◌||◌, if◌then◌else◌}
 use Rattle.std.proofs.lemmas.List.{append-nil, drop_all}
 use Rattle.dwarf_scopes.specs.declared.spans.Span.{Span}
 use Rattle.dwarf_scopes.specs.calls.Spans.{is_in, from_to, covers, EndsBefore, Descend, AreJoined, merged_with, merged, widened, apart_from, apart}
-use Rattle.dwarf_scopes.proofs.OrderLaws.{Fall, IsPassed, passed_behind}
+use Rattle.dwarf_scopes.proofs.OrderLaws.{Fall, IsPassed, passed_behind, element_left}
 
 pub parted : (b c : Bool) → b || c ≡ false → (b ≡ false) × (c ≡ false)
 parted true c e = absurd cc
@@ -45,6 +45,28 @@ none_with a s spans rest h (t ∷ others) none = none_step a s t spans others re
 none_merged : (left right : List Span) (a : ℕ) → covers (merged left right) a ≡ false → (covers left a ≡ false) × (covers right a ≡ false)
 none_merged [] right a none = (refl, none)
 none_merged (s ∷ left) right a none = none_with a s left (merged left) (λ others. none_merged left others a) right none
+
+-- ---- one more span of both
+
+pub left_taken : (left right : List Span) (i j : ℕ) (d e : Span) → i < length left → j < length right → (get_or right j e).last ≤ (get_or left i d).last
+    → merged (drop i left) (drop j right) ≡ get_or left i d ∷ merged (drop (i + 1) left) (drop j right)
+left_taken left right i j d e one two le =
+    let s = get_or left i d in let t = get_or right j e in
+    let rest = drop (j + 1) right in
+    let first : leb t.last s.last ≡ true = grind (arith, le) in
+    ap (λ (l : List Span). merged l (drop j right)) (element_left left i d one) ∙ ap (merged (s ∷ drop (i + 1) left)) (element_left right j e two)
+    ∙ ap (λ (b : Bool). if b then s ∷ merged (drop (i + 1) left) (t ∷ rest) else t ∷ merged (s ∷ drop (i + 1) left) rest) first
+    ∙ ap (λ (l : List Span). s ∷ merged (drop (i + 1) left) l) (sym (element_left right j e two))
+
+pub right_taken : (left right : List Span) (i j : ℕ) (d e : Span) → i < length left → j < length right → (get_or left i d).last < (get_or right j e).last
+    → merged (drop i left) (drop j right) ≡ get_or right j e ∷ merged (drop i left) (drop (j + 1) right)
+right_taken left right i j d e one two lt =
+    let s = get_or left i d in let t = get_or right j e in
+    let rest = drop (j + 1) right in
+    let first : leb t.last s.last ≡ false = grind (arith, lt) in
+    ap (λ (l : List Span). merged l (drop j right)) (element_left left i d one) ∙ ap (merged (s ∷ drop (i + 1) left)) (element_left right j e two)
+    ∙ ap (λ (b : Bool). if b then s ∷ merged (drop (i + 1) left) (t ∷ rest) else t ∷ merged (s ∷ drop (i + 1) left) rest) first
+    ∙ ap (λ (l : List Span). t ∷ merged l rest) (sym (element_left left i d one))
 
 -- ---- by where they end
 

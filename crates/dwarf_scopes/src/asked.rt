@@ -105,6 +105,5 @@ pub fn known_location_in(
     ensures is { IfOk result (λ found. found ≡ entry_in sections.now unit.now at address) }
     ensures right { AreFound sections.now address lists.new }
 {
-    let found = chosen_in::<LocationLists>(sections, unit, address, at, lists)?;
-    Ok(found)
+    chosen_in::<LocationLists>(sections, unit, address, at, lists)
 }

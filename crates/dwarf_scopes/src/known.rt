@@ -310,8 +310,7 @@ fn said_at<K: ListKind>(
     if place.at > section.len() {
         return Ok(None);
     }
-    let said = said_from_place::<K>(sections, address, place, lists)?;
-    Ok(said)
+    said_from_place::<K>(sections, address, place, lists)
 }
 
 fn chosen_of<T: Copy + Drop>(said: Option<Said<T>>) -> Option<Option<T>>

@@ -1,7 +1,7 @@
 //! Parts of the entries of a unit of which none is an inlined subroutine that holds an address: they
 //! are passed over.
 
-ghost use Rattle.std.specs.Prelude.{◌≡◌, ◌≤◌, ◌<◌, ◌+◌, ◌*◌, ℕ, List, [], true, false, length, take, drop, IfOk, not, option_and_then};
+ghost use Rattle.std.specs.Prelude.{◌≡◌, ◌≤◌, ◌<◌, ◌+◌, ◌*◌, ℕ, List, [], true, false, length, take, drop, IfOk, OnOk, not, option_and_then};
 ghost use Rattle.std.specs.List.{list_any};
 ghost use Rattle.dwarf_info.specs.declared.entry.Entry.{Entry as Listed};
 ghost use Rattle.dwarf_scopes.specs.calls.Spans.{covers};
@@ -93,10 +93,7 @@ fn with_entry(alloc: Global, part: Spans, entry: &Entry<'_>) -> Result<Spans, No
     ensures { IfOk result (definitions.IsWith part entry.now) }
 {
     match span_of(entry) {
-        Some(span) => {
-            let more = part.with(alloc, span)?;
-            Ok(more)
-        }
+        Some(span) => part.with(alloc, span),
         None => Ok(part),
     }
 }
@@ -166,11 +163,15 @@ fn larger(alloc: Global, parts: &[Spans]) -> Result<Items<Spans>, NoMemory>
     doubled(alloc, fourfold.as_slice())
 }
 
-/// The levels of entries, as far as there are whole parts.
-fn by_sizes(alloc: Global, entries: &[Entry<'_>]) -> Result<Items<Level>, NoMemory>
-    ensures { IfOk result (λ levels. definitions.AreSized levels entries.now) }
+/// Appends the levels of entries, as far as there are whole parts.
+fn push_sizes(
+    alloc: Global,
+    entries: &[Entry<'_>],
+    levels: &mut Items<Level>,
+) -> Result<(), NoMemory>
+    requires { levels.old ≡ [] }
+    ensures { OnOk result (definitions.AreSized levels.new entries.now) }
 {
-    let mut levels = Items::new(alloc);
     let mut size = FOLD;
     let mut parts = parts_of(alloc, FOLD, entries)?;
     'sizes: while size <= entries.len() / FOLD {
@@ -180,10 +181,10 @@ fn by_sizes(alloc: Global, entries: &[Entry<'_>]) -> Result<Items<Level>, NoMemo
         parts = more;
     }
     if parts.is_empty() {
-        return Ok(levels);
+        return Ok(());
     }
     levels.push(Level { size, parts })?;
-    Ok(levels)
+    Ok(())
 }
 
 /// An entry that holds no address as an inlined subroutine.
@@ -211,10 +212,12 @@ fn are_silent(entries: &[Entry<'_>]) -> bool
 fn sized(alloc: Global, quiet: bool, entries: &[Entry<'_>]) -> Result<Items<Level>, NoMemory>
     ensures { IfOk result (λ levels. definitions.AreSized levels entries.now) }
 {
+    let mut levels = Items::new(alloc);
     if quiet {
-        return Ok(Items::new(alloc));
+        return Ok(levels);
     }
-    by_sizes(alloc, entries)
+    push_sizes(alloc, entries, &mut levels)?;
+    Ok(levels)
 }
 
 /// Counts in four bytes each. More than these can say no memory holds.

@@ -2,7 +2,7 @@
 //! for a single one.
 
 ghost use Rattle.std.specs.Prelude.{◌≡◌, ◌++◌, Some, OnOk, IfOk, find, flat_map, drop, slice_get, unwrap_or};
-ghost use Rattle.dwarf_entries.specs.Standing.{Standing as Stands, standing_in, of_unit};
+ghost use Rattle.dwarf_entries.specs.Standing.{Standing as Stands, standing, standing_in, of_unit};
 ghost use Rattle.dwarf_scopes.specs.Scopes as scopes;
 ghost use Rattle.dwarf_scopes.specs.calls.Knowing.{AreRight};
 ghost use Rattle.dwarf_scopes.specs.calls.Levels.{AreLevels, IsLeveled};
@@ -243,6 +243,26 @@ fn first_in<'r, 'a>(
     }
 }
 
+/// The first one among the entries of all units.
+fn first_among<'r, 'a>(
+    sections: &Sections5<'a>,
+    address: u32,
+    units: &'r [UnitAnswer<'a>],
+    lists: &mut KnownRanges,
+) -> Result<Option<Standing<'r, 'a>>, NoMemory>
+    requires { AreRight sections.now address lists.old }
+    ensures { IfOk result (λ x. x ≡ find (scopes.is_subprogram_at sections.now address)
+        (standing units.now)) }
+{
+    for answer in units {
+        let found = first_in(sections, address, answer, lists)?;
+        if let Some(subprogram) = found {
+            return Ok(Some(subprogram));
+        }
+    }
+    Ok(None)
+}
+
 /// The first subprogram of the section that holds an address and is not removed. It goes through
 /// the entries up to this one, and gathers none.
 #[tactic(auto, unfolding(crate::specs::Scopes::subprogram_at))]
@@ -254,18 +274,10 @@ pub fn subprogram_at<'r, 'a>(
 ) -> Result<Option<Standing<'r, 'a>>, NoMemory>
     ensures { IfOk result (λ x. x ≡ scopes.subprogram_at sections.now units.now address) }
 {
-    let mut lists = no_ranges(alloc);
-    for answer in units {
-        let found = first_in(sections, address, answer, &mut lists)?;
-        if let Some(subprogram) = found {
-            return Ok(Some(subprogram));
-        }
-    }
-    Ok(None)
+    first_among(sections, address, units, &mut no_ranges(alloc))
 }
 
 /// What stands at an address. Where many are looked up, `SubprogramTable` finds it faster.
-#[tactic(auto, unfolding(crate::specs::Scopes::scopes_at, crate::specs::Scopes::inlined_at))]
 pub fn found_at<'r, 'a>(
     alloc: Global,
     sections: &Sections5<'a>,
@@ -278,6 +290,5 @@ pub fn found_at<'r, 'a>(
         ≡ scopes.inlined_at sections.now units.now address) }
 {
     let subprogram = subprogram_at(alloc, sections, units, address)?;
-    let found = Found::of(alloc, sections, address, subprogram)?;
-    Ok(found)
+    Found::of(alloc, sections, address, subprogram)
 }

@@ -162,7 +162,6 @@ fn nothing_found<'r, 'a>(alloc: Global) -> Found<'r, 'a>
 }
 
 /// What stands at a place.
-#[tactic(auto, using(crate::proofs::LevelLaws::level_at))]
 fn found_there<'r, 'a>(
     alloc: Global,
     sections: &Sections5<'a>,
@@ -180,14 +179,8 @@ fn found_there<'r, 'a>(
         return Ok(nothing_found(alloc));
     };
     match levels.get(place.unit) {
-        Some(levels) => {
-            let found = found_in_unit(alloc, sections, address, answer, place.entry, levels)?;
-            Ok(found)
-        }
-        None => {
-            let found = Found::of(alloc, sections, address, placed(units, place))?;
-            Ok(found)
-        }
+        Some(levels) => { found_in_unit(alloc, sections, address, answer, place.entry, levels) }
+        None => Found::of(alloc, sections, address, placed(units, place)),
     }
 }
 
@@ -284,7 +277,6 @@ impl SubprogramTable {
     }
 
     /// What stands at an address.
-    #[tactic(auto, using(crate::proofs::Filters::found_kept), unfolding(crate::specs::Scopes::scopes_at, crate::specs::Scopes::inlined_at))]
     pub fn find<'r, 'a>(
         &self,
         alloc: Global,
@@ -303,7 +295,6 @@ impl SubprogramTable {
             places: self.places.as_slice(),
         };
         let number = self.holders.number(alloc, sections, &subprograms, address)?;
-        let found = self.found(alloc, sections, units, address, number)?;
-        Ok(found)
+        self.found(alloc, sections, units, address, number)
     }
 }

@@ -1,4 +1,5 @@
 use Rattle.std.proofs.Common.{◌<◌, ap, length, arith}
+use Rattle.std.proofs.lemmas.Result.{IfOk-weaker}
 use Rattle.dwarf_scopes.proofs.KnownLaws.{is_said_in, said_past}
 use Rattle.dwarf_scopes.proofs.known.said_at.Goals as goal
 
@@ -10,4 +11,4 @@ returns-then-place-section-clause-said g c =
 
 pub returns-clause-said : goal.returns-clause-said
 returns-clause-said g c =
-    is_said_in (g.K.ListKind.section c.args.sections.now) (g.K.ListKind.item c.args.sections.now) c.args.address c.args.place c.in_ok-said.said c.in_ok-said.ensures.said
+    IfOk-weaker c.said_from_place.result _ _ (λ said is. is_said_in (g.K.ListKind.section c.args.sections.now) (g.K.ListKind.item c.args.sections.now) c.args.address c.args.place said is) c.said_from_place.ensures.said

@@ -1,4 +1,4 @@
-use Rattle.std.proofs.Common.{◌≡◌, true, refl}
+use Rattle.std.proofs.Common.{refl}
 use Rattle.dwarf_scopes.proofs.LevelLaws.{silent_more}
 use Rattle.dwarf_scopes.proofs.levels.are_silent.Goals as goal
 

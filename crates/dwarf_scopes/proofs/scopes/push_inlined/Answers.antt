@@ -1,4 +1,4 @@
-use Rattle.std.proofs.Common.{◌≡◌, ◌+◌, ◌++◌, ◌∙◌, false, drop, List, sym, ap, subst, arith}
+use Rattle.std.proofs.Common.{◌+◌, ◌++◌, ◌∙◌, false, List, sym, ap, subst, arith}
 use Rattle.std.specs.Prelude.{filter}
 use Rattle.dwarf_info.specs.declared.entry.Entry.{Entry}
 use Rattle.dwarf_entries.specs.Standing.{Standing, standing_in}

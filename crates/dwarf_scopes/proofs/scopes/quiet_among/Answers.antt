@@ -1,4 +1,4 @@
-use Rattle.std.proofs.Common.{◌<◌, ◌≤◌, ◌^◌, length, arith}
+use Rattle.std.proofs.Common.{◌<◌, ◌^◌, length, arith}
 use Rattle.dwarf_scopes.proofs.LevelLaws.{passed_over}
 use Rattle.dwarf_scopes.proofs.scopes.quiet_among.Goals as goal
 

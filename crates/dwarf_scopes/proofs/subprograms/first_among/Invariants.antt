@@ -3,7 +3,7 @@ use Rattle.std.specs.Prelude.{find}
 use Rattle.dwarf_entries.specs.Standing.{standing}
 use Rattle.dwarf_scopes.specs.Scopes.{is_subprogram_at}
 use Rattle.dwarf_scopes.specs.calls.Knowing.{AreRight}
-use Rattle.dwarf_scopes.proofs.subprograms.subprogram_at.Given as goal
+use Rattle.dwarf_scopes.proofs.subprograms.first_among.Given as goal
 
 abbrev pub invariant-loop-answer : goal.invariant-loop-answer
 invariant-loop-answer l = record {

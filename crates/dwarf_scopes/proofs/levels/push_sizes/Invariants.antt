@@ -1,7 +1,7 @@
 use Rattle.std.proofs.Common.{◌<◌, ◌-◌, length}
 use Rattle.dwarf_scopes.specs.calls.Levels.{AreParts}
 use Rattle.dwarf_scopes.proofs.LevelLaws.{Grows}
-use Rattle.dwarf_scopes.proofs.levels.by_sizes.Given as goal
+use Rattle.dwarf_scopes.proofs.levels.push_sizes.Given as goal
 
 abbrev pub invariant-sizes : goal.invariant-sizes
 invariant-sizes l = (0 < l.size) × (AreParts l.size l.parts l.entries × Grows l.entries l.levels)
