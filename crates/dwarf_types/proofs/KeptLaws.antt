@@ -12,9 +12,9 @@ use Rattle.dwarf_types.specs.Counts.{counts}
 use Rattle.dwarf_types.specs.calls.Subranges.{Subranges, AreOf}
 use Rattle.dwarf_types.specs.calls.Known.{AreKnown}
 use Rattle.dwarf_types.specs.calls.Inside.{AreInside, picked}
-use Rattle.dwarf_types.specs.calls.Contents.{contents, AreContentsIn, AreContentsOf, AreContents}
+use Rattle.dwarf_types.specs.calls.Contents.{contents, AreContentsOf, AreContents}
 use Rattle.dwarf_types.specs.declared.arrays.Arrays.{Arrays}
-use Rattle.dwarf_types.specs.calls.Numbers.{AreFirst, AreFirstIn, AreFirstOf}
+use Rattle.dwarf_types.specs.calls.Numbers.{AreFirst, AreFirstOf}
 use Rattle.dwarf_types.specs.declared.enumerators.Enumerators.{Enumerators}
 use Rattle.dwarf_types.specs.declared.structures.MemberPositions.{MemberPositions}
 use Rattle.dwarf_types.specs.declared.structures.Structures.{Structures}
@@ -33,9 +33,10 @@ one_kept {A} P before after at x updates are is q =
 
 -- those of an entry that was found at an offset
 pub array_kept : (units : List UnitAnswer) (before after : Arrays) (at : ℕ) (s : Standing) (rows : Subranges)
-    → ((us : List UnitAnswer) → AreKnown us before → AreOf (standing_at us at) rows → AreKnown us after) → AreKnown units before → Some s ≡ standing_at units at → rows.counts ≡ counts s
+    → ((q : ℕ) → get nat_cmp after.known q ≡ cond (is_eq (nat_cmp at q)) (Some rows) (get nat_cmp before.known q)) → AreKnown units before → Some s ≡ standing_at units at → rows.counts ≡ counts s
     → AreKnown units after
-array_kept units before after at s rows kept are found is = kept units are (subst (λ (o : Option Standing). AreOf o rows) found is)
+array_kept units before after at s rows updates are found is =
+    one_kept (λ q. AreOf (standing_at units q)) (get nat_cmp before.known) (get nat_cmp after.known) at rows updates are (subst (λ (o : Option Standing). AreOf o rows) found is)
 
 -- what is known at the offset of an entry
 pub rows_known : (units : List UnitAnswer) (arrays : Arrays) (o : Option Subranges) (s : Standing) (e : Entry) → e ≡ s.entry → ((us : List UnitAnswer) → AreKnown us arrays → IfSome o (AreOf (standing_at us e.at)))
@@ -50,11 +51,6 @@ pub rows_here : (o : Option Subranges) (rows : Subranges) (s : Standing) → o �
 rows_here o rows s is are = subst (λ (x : Option Subranges). IfSome x (AreOf (Some s))) is are
 
 -- ---- what stands in structures
-
-pub contents_kept : (units : List UnitAnswer) (before after : Structures) (at : ℕ) (s : Standing) (m : MemberPositions)
-    → ((us : List UnitAnswer) → AreContents us before → AreContentsOf (standing_at us at) m → AreContents us after) → AreContents units before → Some s ≡ standing_at units at → AreContentsIn s m
-    → AreContents units after
-contents_kept units before after at s m kept are found is = kept units are (subst (λ (o : Option Standing). AreContentsOf o m) found is)
 
 pub contents_known : (units : List UnitAnswer) (structures : Option Structures) (o : Option MemberPositions) (s : Standing) (e : Entry) → e ≡ s.entry
     → ((us : List UnitAnswer) → IfSome structures (AreContents us) → IfSome o (AreContentsOf (standing_at us e.at)))
@@ -75,11 +71,6 @@ told_here None s are = tt
 told_here (Some m) s are = are.told
 
 -- ---- enumerators
-
-pub numbers_kept : (units : List UnitAnswer) (before after : Structures) (at : ℕ) (s : Standing) (e : Enumerators)
-    → ((us : List UnitAnswer) → AreContents us before → AreFirstOf (standing_at us at) e → AreContents us after) → AreContents units before → Some s ≡ standing_at units at → AreFirstIn s e
-    → AreContents units after
-numbers_kept units before after at s e kept are found is = kept units are (subst (λ (o : Option Standing). AreFirstOf o e) found is)
 
 pub numbers_known : (units : List UnitAnswer) (structures : Option Structures) (o : Option Enumerators) (s : Standing) (e : Entry) → e ≡ s.entry
     → ((us : List UnitAnswer) → IfSome structures (AreContents us) → IfSome o (AreFirstOf (standing_at us e.at)))

@@ -9,6 +9,7 @@ ghost use Rattle.dwarf_types.specs.calls.Subranges.{AreOf};
 use crate::array_rows::ArrayRows;
 use crate::behind::{Typed, type_of};
 use crate::class::{Class, class_of};
+use crate::offsets::keep;
 use crate::shallow::is_shallow;
 use crate::size::type_size;
 use crate::typed_units::TypedUnits;
@@ -80,15 +81,6 @@ fn element_size<'r, 'k, 'a>(
     }
 }
 
-/// Keeps what is known of an array.
-fn keep(arrays: &mut Arrays, at: u32, rows: ArrayRows) -> Result<(), NoMemory>
-    ensures { OnOk result ((units : List UnitAnswer) → AreKnown units arrays.old
-        → AreOf (standing_at units at) rows → AreKnown units arrays.new) }
-{
-    arrays.known.insert(at, rows)?;
-    Ok(())
-}
-
 /// Whether an entry is that of an array that is not known yet, in which not too many levels stand.
 fn is_wanted(arrays: &Arrays, entry: &Entry<'_>, behind: &[Entry<'_>]) -> bool {
     entry.tag == ARRAY && !arrays.known.contains_key(&entry.at) && is_shallow(entry, behind)
@@ -114,7 +106,7 @@ fn add_array(
         ElementSize::Unknown => Ok(false),
         ElementSize::Known(size) => {
             let rows = ArrayRows::of(alloc, &standing, size)?;
-            keep(arrays, at, rows)?;
+            keep(&mut arrays.known, at, rows)?;
             Ok(false)
         }
     }

@@ -10,6 +10,7 @@ mod entry_range;
 mod enumerators;
 mod kept_counts;
 mod kind;
+mod offsets;
 mod shallow;
 mod size;
 mod structures;

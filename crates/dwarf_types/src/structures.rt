@@ -12,6 +12,7 @@ ghost use Rattle.dwarf_types.specs.calls.Numbers.{AreFirstOf};
 use crate::class::{Class, class_of};
 use crate::entry_range::{EntryRange, range_inside};
 use crate::enumerators::Enumerators;
+use crate::offsets::keep;
 use crate::shallow::is_shallow;
 use causes::NoMemory;
 use dwarf_entries::names::BYTE_SIZE;
@@ -102,22 +103,8 @@ fn members_of<'r, 'a>(
     Ok(MemberPositions { range, positions })
 }
 
-/// Keeps what stands in a structure.
-fn keep_members(
-    structures: &mut Structures,
-    at: u32,
-    members: MemberPositions,
-) -> Result<(), NoMemory>
-    ensures { OnOk result ((units : List UnitAnswer) → AreContents units structures.old
-        → AreContentsOf (standing_at units at) members → AreContents units structures.new) }
-{
-    structures.members.insert(at, members)?;
-    Ok(())
-}
-
 /// Adds what stands in the structure at an offset, where that is little of what stands there: all
 /// that is kept takes less than the entries.
-#[tactic(auto, using(crate::proofs::KeptLaws::contents_kept))]
 fn add_structure<'r, 'a>(
     alloc: Global,
     units: &'r Units<'a>,
@@ -137,21 +124,7 @@ fn add_structure<'r, 'a>(
     if members.positions.len() >= (range.count / 8) as usize {
         return Ok(());
     }
-    keep_members(structures, at, members)?;
-    Ok(())
-}
-
-/// Keeps the enumerators of an enumeration.
-fn keep_numbers(
-    structures: &mut Structures,
-    at: u32,
-    enumerators: Enumerators,
-) -> Result<(), NoMemory>
-    ensures { OnOk result ((units : List UnitAnswer) → AreContents units structures.old
-        → AreFirstOf (standing_at units at) enumerators → AreContents units structures.new) }
-{
-    structures.numbers.insert(at, enumerators)?;
-    Ok(())
+    keep(&mut structures.members, at, members)
 }
 
 /// The size that a type says, or else the first of the types that it stands on, of at most so many.
@@ -176,7 +149,6 @@ fn short_size<'r, 'a>(units: &'r Units<'a>, entry: &'r Entry<'a>) -> Option<u64>
 }
 
 /// Adds the enumerators of the enumeration at an offset, where these may be many.
-#[tactic(auto, using(crate::proofs::KeptLaws::numbers_kept))]
 fn add_enumeration<'r, 'a>(
     alloc: Global,
     units: &'r Units<'a>,
@@ -199,8 +171,7 @@ fn add_enumeration<'r, 'a>(
         return Ok(());
     }
     let enumerators = Enumerators::of(alloc, &standing, range, size)?;
-    keep_numbers(structures, at, enumerators)?;
-    Ok(())
+    keep(&mut structures.numbers, at, enumerators)
 }
 
 /// Adds what stands in an entry behind which these stand, if it is that of a structure or of an
