@@ -4,10 +4,9 @@ use Rattle.std.specs.Prelude.{bytes_eq, find, flat_map, reverse, is_some, if◌t
 use Rattle.std.specs.Option.{option_or}
 use Rattle.std.specs.Ordering.{nat_cmp}
 use Rattle.std.specs.Map.{lookup}
-use Rattle.std.specs.BTreeMap.{is_at, UpdatesBy}
+use Rattle.std.specs.BTreeMap.{is_at}
 use Rattle.std.specs.Cmp.Lexicographic.{slice_cmp}
 use Rattle.std.proofs.lemmas.List.Folds.{find-append}
-use Rattle.std.proofs.lemmas.Map.Text.{btree_map_updates_str}
 use Rattle.std.proofs.lemmas.Slice.Eq.{bytes_eq-Decides}
 use Rattle.dwarf_info.specs.declared.entry.Entry.{Entry}
 use Rattle.dwarf_info.specs.declared.entry.Unit.{Unit as UnitTree}
@@ -22,18 +21,12 @@ use Rattle.var_eval.specs.Chosen.{is_named, unit_variable, global_entries, is_gl
 use Rattle.var_eval.specs.calls.Names.{look, offset_found}
 use Rattle.var_eval.specs.inner.Named.{longest_name}
 use Rattle.var_eval.specs.inner.Adding.{own_offset, alone, Adds, Still, meant_in}
-use Rattle.var_eval.proofs.NamedLaws.{kept_by, added_by}
+use Rattle.var_eval.proofs.NamedLaws.{kept_by}
 
 -- ---- one name
 
 pub name_there : (t : NameTable) (at : ℕ) (own : List ℕ) → is_some (look t own) ≡ true → (q : List ℕ) → look t q ≡ option_or (look t q) (own_offset at own q)
 name_there t at own there q = kept_by (look t) at own q (bytes_eq own q) (look t q) refl refl there
-
-pub name_added : (old new : NameTable) (at : ℕ) (own : List ℕ) → is_some (look old own) ≡ false
-    → UpdatesBy (λ x y. slice_cmp nat_cmp x.now y.now) (λ k. slice_cmp nat_cmp own k.now) old.offsets new.offsets (Some at) → (q : List ℕ)
-    → look new q ≡ option_or (look old q) (own_offset at own q)
-name_added old new at own none updates q =
-    added_by (look old) (look new) at own q (bytes_eq own q) (look old q) refl refl none (btree_map_updates_str own old.offsets new.offsets (Some at) updates q)
 
 -- ---- one entry
 

@@ -1,10 +1,10 @@
 -- The members of structures by their names.
-use Rattle.std.proofs.Common.{◌≡◌, ℕ, ◌-◌, ◌<◌, ◌≤◌, Bool, true, false, cond, List, [], ◌∷◌, ◌++◌, length, Option, Some, None, refl, sym, ap, subst, ◌∙◌, arith}
+use Rattle.std.proofs.Common.{Bor, ◌≡◌, ℕ, ◌-◌, ◌<◌, ◌≤◌, Bool, true, false, cond, List, [], ◌∷◌, ◌++◌, length, Option, Some, None, refl, sym, ap, subst, ◌∙◌, arith}
 use Rattle.std.specs.Prelude.{bytes_eq, filter, find, flat_map, is_some, option_and_then, Result, ok_or, IfSome, if◌then◌else◌}
 use Rattle.std.specs.Option.{option_or}
 use Rattle.std.specs.Ordering.{nat_cmp}
 use Rattle.std.specs.Map.{lookup}
-use Rattle.std.specs.BTreeMap.{get, is_at, UpdatesBy}
+use Rattle.std.specs.BTreeMap.{BTreeMap, get, get_by, is_at, UpdatesBy}
 use Rattle.std.specs.Cmp.Lexicographic.{slice_cmp}
 use Rattle.std.proofs.lemmas.Map.Text.{btree_map_updates_str}
 use Rattle.std.proofs.lemmas.Slice.Eq.{bytes_eq-Decides}
@@ -15,8 +15,9 @@ use Rattle.dwarf_entries.specs.Standing.{Standing, standing_at, standing_in, sta
 use Rattle.dwarf_entries.specs.Origins.{name_or_empty, longest_chain}
 use Rattle.dwarf_entries.specs.Tags.{tag_member}
 use Rattle.dwarf_types.specs.Structures.{tag_variant_part}
+use Rattle.dwarf_types.proofs.KeptLaws.{one_kept}
 use Rattle.var_values.specs.declared.item.Item.{Item}
-use Rattle.var_values.specs.declared.item.Item.TheVariants.{Member}
+use Rattle.var_values.specs.declared.item.Item.TheVariants.{Member, Unknown}
 use Rattle.var_values.specs.declared.mark.Mark.TheVariants.{UnsupportedType}
 use Rattle.var_values.specs.Bytes.{Recorded}
 use Rattle.var_values.specs.Places.{Place}
@@ -26,7 +27,7 @@ use Rattle.var_eval.specs.declared.named.MemberNames.{MemberNames}
 use Rattle.var_eval.specs.declared.named.KnownMembers.{KnownMembers}
 use Rattle.var_eval.specs.declared.dead_end.DeadEnd.{DeadEnd}
 use Rattle.var_eval.specs.Steps.{Part, Reached, has_name, at_member, at_item, member_of}
-use Rattle.var_eval.specs.inner.Named.{longest_name, is_called, own_at, member_at, first_by, member_told, IsMember, AreNamed, AreNamedOf, AreKnown, IsFound}
+use Rattle.var_eval.specs.inner.Named.{longest_name, is_called, own_at, member_at, first_by, entry_of, member_told, IsMember, AreNamed, AreNamedOf, AreKnown, IsFound}
 use Rattle.var_eval.specs.inner.Told.{Tells}
 
 -- ---- one more member
@@ -51,10 +52,12 @@ added_by before after e own name true None tie is none new = new ∙ rw is refl
 added_by before after e own name true (Some x) tie is none new =
     absurd (let same : own ≡ name = (bytes_eq-Decides own name).0 tie in let some : true ≡ false = sym (ap is_some (ap before same ∙ is)) ∙ none in cc)
 
-pub added : (old new : MemberNames) (e : Entry) (own : List ℕ) → is_some (first_by old own) ≡ false
-    → UpdatesBy (λ x y. slice_cmp nat_cmp x.now y.now) (λ k. slice_cmp nat_cmp own k.now) old.first new.first (Some e) → (name : List ℕ) → first_by new name ≡ option_or (first_by old name) (own_at e own name)
-added old new e own none updates name =
-    added_by (first_by old) (first_by new) e own name (bytes_eq own name) (first_by old name) refl refl none (btree_map_updates_str own old.first new.first (Some e) updates name)
+pub one_added : {A : Type 0} (old new : BTreeMap (Bor (List ℕ)) A) (e : A) (own : List ℕ) → is_some (get_by (λ k. slice_cmp nat_cmp own k.now) old) ≡ false
+    → UpdatesBy (λ x y. slice_cmp nat_cmp x.now y.now) (λ k. slice_cmp nat_cmp own k.now) old new (Some e) → (name : List ℕ)
+    → get_by (λ k. slice_cmp nat_cmp name k.now) new ≡ option_or (get_by (λ k. slice_cmp nat_cmp name k.now) old) (if bytes_eq own name then Some e else None)
+one_added old new e own none updates name =
+    added_by (λ q. get_by (λ k. slice_cmp nat_cmp q k.now) old) (λ q. get_by (λ k. slice_cmp nat_cmp q k.now) new) e own name (bytes_eq own name) (get_by (λ k. slice_cmp nat_cmp name k.now) old) refl refl none
+    (btree_map_updates_str own old new (Some e) updates name)
 
 -- an entry of another kind adds none
 pub other_left_out : (units : List UnitAnswer) (depth : ℕ) (e : Entry) (before : List ℕ → Option Entry) → is_child depth tag_member e ≡ false
@@ -169,6 +172,11 @@ pub none_known : (k : KnownMembers) → k.structures.entries ≡ [] → (units :
 none_known k none units q =
     subst (λ (o : Option MemberNames). IfSome o (AreNamedOf units (standing_at units q))) (sym (ap (λ es. lookup (is_at (nat_cmp q)) es) none)) tt
 
+pub one_known : (units : List UnitAnswer) (before after : BTreeMap ℕ MemberNames) (at : ℕ) (m : MemberNames) → UpdatesBy nat_cmp (nat_cmp at) before after (Some m)
+    → ((q : ℕ) → IfSome (get nat_cmp before q) (AreNamedOf units (standing_at units q))) → AreNamedOf units (standing_at units at) m
+    → (q : ℕ) → IfSome (get nat_cmp after q) (AreNamedOf units (standing_at units q))
+one_known units before after at m updates = one_kept (λ q. AreNamedOf units (standing_at units q)) (get nat_cmp before) (get nat_cmp after) at m updates.0
+
 pub names_kept : (units : List UnitAnswer) (before after : KnownMembers) (s : Standing) (e : Entry) (m : MemberNames) → e ≡ s.entry
     → ((us : List UnitAnswer) → AreKnown us before → AreNamedOf us (standing_at us e.at) m → AreKnown us after) → IsFound units s → AreKnown units before → AreNamed units s m → AreKnown units after
 names_kept units before after s e m is kept found are named =
@@ -186,13 +194,22 @@ member_here units known s e m found name o is got there are own short first =
     let here : AreNamed units s m = subst (λ (x : Option Standing). AreNamedOf units x m) (ap (λ (x : Entry). standing_at units x.at) is ∙ own) named in
     subst (λ (x : Option Entry). IsMember units s name x) (sym first) (here name short)
 
--- ---- what is told by a member that is known
+-- ---- what is told by a member that was found or is known
 
-pub told_known : (units us : List UnitAnswer) (s x : Standing) (name : List ℕ) (o : Option Entry) (memory : Recorded) (place : Place) (past : Bool) (r : Result Part DeadEnd) → us ≡ units → x ≡ s
-    → IsMember us x name o → Tells r (member_told units place past o) → Tells r (member_of units memory name s place past)
-told_known units us s x name o memory place past r same this is told =
+pub told_found : (units : List UnitAnswer) (place : Place) (past : Bool) (o : Option Item) (e : Option Entry) (r : Result Part DeadEnd) → e ≡ option_and_then entry_of o → Tells r (member_told units place past e)
+    → Tells r (ok_or (option_and_then (at_item units place past) o) UnsupportedType)
+told_found units place past o e r is told = subst (λ (p : Option Part). Tells r (ok_or p UnsupportedType)) (ap (option_and_then (at_member units place past)) is ∙ by o) told
+  where
+    by : (o : Option Item) → option_and_then (at_member units place past) (option_and_then entry_of o) ≡ option_and_then (at_item units place past) o
+    by None = refl
+    by (Some (Member x)) = refl
+    by (Some (Unknown m)) = refl
+
+pub told_known : (units us : List UnitAnswer) (s x : Standing) (name : List ℕ) (o e : Option Entry) (memory : Recorded) (place : Place) (past : Bool) (r : Result Part DeadEnd) → us ≡ units → x ≡ s
+    → IsMember us x name o → e ≡ o → Tells r (member_told units place past e) → Tells r (member_of units memory name s place past)
+told_known units us s x name o e memory place past r same this is known told =
     let here : member_of units memory name s place past ≡ member_told units place past o =
     ap (λ (us : List UnitAnswer). member_of us memory name s place past) (sym same) ∙ ap (λ (x : Standing). member_of us memory name x place past) (sym this) ∙ is memory place past
     ∙ ap (λ (us : List UnitAnswer). member_told us place past o) same
     in
-    subst (λ (x : Reached). Tells r x) (sym here) told
+    subst (λ (x : Reached). Tells r x) (ap (member_told units place past) known ∙ sym here) told

@@ -2,7 +2,7 @@
 use Rattle.std.proofs.Common.{◌≡◌, ℕ, Bool, true, false, cond, [], Option, Some, sym, ap, subst, ◌∙◌}
 use Rattle.std.specs.Prelude.{IfSome}
 use Rattle.std.specs.Ordering.{nat_cmp, is_eq}
-use Rattle.std.specs.BTreeMap.{BTreeMap, get, is_at}
+use Rattle.std.specs.BTreeMap.{BTreeMap, get, is_at, UpdatesBy}
 use Rattle.std.specs.Map.{lookup}
 use Rattle.dwarf_info.specs.declared.entry.AttrValue.TheVariants.{Offset}
 use Rattle.dwarf_entries.specs.Standing.{Standing}
@@ -28,10 +28,10 @@ known_from f sources number k p got same said =
     subst (λ (o : Option KnownSource). IfSome o (λ k. k.source ≡ sourced_at f k.place)) got (said number) ∙ ap (sourced_at f) same
 
 pub source_kept : (f : Frame) (before after : BTreeMap ℕ KnownSource) (number : ℕ) (k : KnownSource)
-    → ((q : ℕ) → get nat_cmp after q ≡ cond (is_eq (nat_cmp number q)) (Some k) (get nat_cmp before q)) → AreSourced f before
+    → UpdatesBy nat_cmp (nat_cmp number) before after (Some k) → AreSourced f before
     → k.source ≡ sourced_at f k.place → AreSourced f after
 source_kept f before after number k updates said is q =
-    subst (λ (o : Option KnownSource). IfSome o (λ k. k.source ≡ sourced_at f k.place)) (sym (updates q)) (by (is_eq (nat_cmp number q)))
+    subst (λ (o : Option KnownSource). IfSome o (λ k. k.source ≡ sourced_at f k.place)) (sym (updates.0 q)) (by (is_eq (nat_cmp number q)))
   where
     by : (b : Bool) → IfSome (cond b (Some k) (get nat_cmp before q)) (λ k. k.source ≡ sourced_at f k.place)
     by true = is

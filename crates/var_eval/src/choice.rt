@@ -244,8 +244,8 @@ pub fn chosen_by<'r, 'a>(
     let Some(here) = subprogram else {
         return Ok(None);
     };
-    let mut places = Items::new(alloc);
     let visible = variables_from(alloc, sections, address, subprogram)?;
+    let mut places = Items::new(alloc);
     match last_named(units, name, &mut places, visible) {
         Some(last) => Ok(Some(last)),
         None => Ok(beyond_scopes(units, name, &mut places, here.unit())),

@@ -2,7 +2,7 @@
 
 use var_values::Mark;
 
-#[derive(Clone, Copy, Debug)]
+#[derive(Clone, Copy)]
 pub enum DeadEnd {
     /// A step does not fit, for this reason.
     Marked(Mark),

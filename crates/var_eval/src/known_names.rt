@@ -56,7 +56,7 @@ pub fn no_names<'a>() -> KnownNames<'a>
 // ---- the table of an address
 
 /// Adds a name behind all others.
-#[tactic(auto, using(crate::proofs::NameLaws::name_there))]
+#[tactic(auto, using(crate::proofs::NameLaws::name_there, crate::proofs::NamedLaws::one_added))]
 fn add_first<'a>(table: &mut NameTable<'a>, name: &'a [u8], at: u32) -> Result<(), NoMemory>
     ensures { OnOk result ((q : List ℕ) → look table.new q
         ≡ option_or (look table.old q) (own_offset at name.now q)) }

@@ -1,6 +1,6 @@
 //! Where variables are (DWARF 4 sections 2.6, 3.3.5 and 4.1; DWARF 5 section 2.6).
 
-ghost use Rattle.std.specs.Prelude.{◌≡◌, ◌<◌, ◌^◌, IfOk, Some, length, take, drop};
+ghost use Rattle.std.specs.Prelude.{◌≡◌, ◌<◌, ◌^◌, IfOk, Some, length, take, drop, true};
 ghost use Rattle.dwarf_info.specs.declared.entry.AttrValue.TheVariants.{Offset};
 ghost use Rattle.dwarf_scopes.specs.calls.Knowing.{AreFound};
 ghost use Rattle.dwarf5_info.specs.Units.{plain_of};
@@ -112,15 +112,11 @@ fn located<'r, 'a>(
     }
 }
 
-/// An expression whose offsets have 32 bits. A longer one takes more memory than there is.
-fn short(expr: &[u8]) -> Result<&[u8], NoMemory>
-    ensures same { IfOk result (λ e. e.now ≡ expr.now) }
-    ensures short { IfOk result (λ e. length e.now < 2 ^ 32) }
+/// Whether the offsets in an expression have 32 bits. A longer one takes more memory than there is.
+fn is_short(expr: &[u8]) -> bool
+    ensures { result ≡ true → length expr.now < 2 ^ 32 }
 {
-    if expr.len() > u32::MAX as usize {
-        return Err(NoMemory);
-    }
-    Ok(expr)
+    expr.len() <= u32::MAX as usize
 }
 
 /// What an expression means as the place of a variable: one WebAssembly location alone holds its
@@ -141,6 +137,17 @@ fn place_meant(expr: &[u8], view: &FrameView<'_>, base: Base) -> Eval
     }
 }
 
+/// The frame base that an expression gives.
+fn base_by(expr: &[u8], view: &FrameView<'_>) -> Result<Base, NoMemory>
+    ensures { IfOk result (λ b. b ≡ base_given (Some expr.now) view.now) }
+{
+    if is_short(expr) {
+        Ok(frame_base(expr, view))
+    } else {
+        Err(NoMemory)
+    }
+}
+
 /// The frame base that an expression of a unit gives.
 fn base_meant(
     alloc: Global,
@@ -154,9 +161,9 @@ fn base_meant(
 {
     if unit.version == 5 {
         let plain = plain_expr(alloc, sections, unit, expr)?;
-        Ok(frame_base(short(plain.as_slice())?, view))
+        base_by(plain.as_slice(), view)
     } else {
-        Ok(frame_base(short(expr)?, view))
+        base_by(expr, view)
     }
 }
 
@@ -213,14 +220,16 @@ fn is_gone(left: Option<u32>, expr: &[u8]) -> bool
 }
 
 /// Where a variable comes from in a frame by its expression.
-fn source_in(frame: &VariableFrame<'_, '_, '_, '_, '_, '_>, expr: &[u8]) -> Source
-    requires { length expr.now < 2 ^ 32 }
-    ensures { result ≡ locations.source_in frame.now expr.now }
+fn source_in(frame: &VariableFrame<'_, '_, '_, '_, '_, '_>, expr: &[u8]) -> Result<Source, NoMemory>
+    ensures { IfOk result (λ source. source ≡ locations.source_in frame.now expr.now) }
 {
-    if is_gone(frame.left(), expr) {
-        return Source::Lost(Mark::OptimisedOut);
+    if !is_short(expr) {
+        return Err(NoMemory);
     }
-    source_meant(place_meant(expr, frame.view(), frame.base()))
+    if is_gone(frame.left(), expr) {
+        return Ok(Source::Lost(Mark::OptimisedOut));
+    }
+    Ok(source_meant(place_meant(expr, frame.view(), frame.base())))
 }
 
 /// Where a variable of a unit comes from in a frame by its expression.
@@ -235,9 +244,9 @@ fn source_by<'a>(
 {
     if unit.version == 5 {
         let plain = plain_expr(alloc, frame.sections(), unit, expr)?;
-        Ok(source_in(frame, short(plain.as_slice())?))
+        source_in(frame, plain.as_slice())
     } else {
-        Ok(source_in(frame, short(expr)?))
+        source_in(frame, expr)
     }
 }
 
@@ -261,4 +270,16 @@ pub fn source_of<'r, 'a>(
         Located::Unreadable => Ok(Source::Lost(Mark::BadExpression)),
         Located::Unsaid => Ok(constant_source(&variable.entry().attributes)),
     }
+}
+
+/// The same of one variable alone.
+pub fn source_alone<'r, 'a>(
+    alloc: Global,
+    frame: &VariableFrame<'_, '_, '_, '_, '_, 'a>,
+    variable: &Standing<'r, 'a>,
+) -> Result<Source, NoMemory>
+    ensures { IfOk result (λ source. source ≡ locations.variable_source frame.now variable.now) }
+{
+    let mut lists = no_locations(alloc);
+    source_of(alloc, frame, variable, &mut lists)
 }

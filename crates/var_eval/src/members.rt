@@ -1,6 +1,6 @@
 //! Steps to members (DWARF 4 section 5.5.6).
 
-ghost use Rattle.std.specs.Prelude.{◌≡◌, true, OnOk, find, option_map, option_copied, ok_or};
+ghost use Rattle.std.specs.Prelude.{◌≡◌, true, OnOk, find, option_map, option_and_then, option_copied, ok_or};
 ghost use Rattle.var_values.specs.declared.mark.Mark.TheVariants.{UnsupportedType};
 ghost use Rattle.var_values.specs.Members.{part_at as the_place};
 ghost use Rattle.var_eval.specs.Steps as steps;
@@ -42,19 +42,30 @@ fn has_name<'r, 'a>(
     }
 }
 
+/// The entry of a member; none of what stands in the place of a variant part.
+fn entry_of<'r, 'a>(item: &Item<'r, 'a>) -> Option<&'r Entry<'a>>
+    ensures { option_copied result ≡ named.entry_of item.now }
+{
+    match item {
+        Item::Member(standing) => Some(standing.entry()),
+        Item::Unknown(_) => None,
+    }
+}
+
 /// The first of a name, among what stands in a structure.
-fn member_named<'i, 'r, 'a>(
+fn member_named<'r, 'a>(
     alloc: Global,
     units: &'r Units<'a>,
     name: &[u8],
-    items: &'i [Item<'r, 'a>],
-) -> Option<&'i Item<'r, 'a>>
-    ensures { option_copied result ≡ find (steps.has_name units.now name.now) items.now }
+    items: &[Item<'r, 'a>],
+) -> Option<&'r Entry<'a>>
+    ensures { option_copied result
+        ≡ option_and_then named.entry_of (find (steps.has_name units.now name.now) items.now) }
 {
     let mut places = Items::new(alloc);
     for item in items {
         if has_name(units, name, &mut places, item) {
-            return Some(item);
+            return entry_of(item);
         }
     }
     None
@@ -92,17 +103,20 @@ fn placed_part<'r, 'k, 'a>(
     })
 }
 
-/// A member of a structure that stands there; a static one is no more than its constant.
+/// A member of a structure that stands there, if there is one; a static one is no more than its
+/// constant.
 #[tactic(auto, unfolding(crate::specs::Steps::at_member))]
 fn member_part<'r, 'k, 'a>(
     units: &TypedUnits<'r, 'k, 'a>,
-    member: &'r Entry<'a>,
+    member: Option<&'r Entry<'a>>,
     spot: SourcedPlace,
     past: bool,
 ) -> Result<Part<'r, 'k, 'a>, DeadEnd>
-    ensures { Tells result
-        (ok_or (steps.at_member units.now spot past member.now) UnsupportedType) }
+    ensures { Tells result (named.member_told units.now spot past (option_copied member.entry)) }
 {
+    let Some(member) = member else {
+        return Err(DeadEnd::Marked(Mark::UnsupportedType));
+    };
     if !is_static(member) {
         return placed_part(units, member, spot, past);
     }
@@ -114,37 +128,18 @@ fn member_part<'r, 'k, 'a>(
     })
 }
 
-/// A member of a structure that stands there, which is among what stands in it.
-fn item_part<'r, 'k, 'a>(
-    units: &TypedUnits<'r, 'k, 'a>,
-    item: &Item<'r, 'a>,
-    spot: SourcedPlace,
-    past: bool,
-) -> Result<Part<'r, 'k, 'a>, DeadEnd>
-    ensures { Tells result (ok_or (steps.at_item units.now spot past item.now) UnsupportedType) }
-{
-    match item {
-        Item::Member(standing) => member_part(units, standing.entry(), spot, past),
-        Item::Unknown(_) => Err(DeadEnd::Marked(Mark::UnsupportedType)),
-    }
-}
-
-/// A member of a structure that stands there, which is known to be what a name means; None for none.
-fn named_part<'r, 'k, 'a>(
-    units: &TypedUnits<'r, 'k, 'a>,
-    member: Option<NamedMember<'r, 'a>>,
-    spot: SourcedPlace,
-    past: bool,
-) -> Result<Part<'r, 'k, 'a>, DeadEnd>
-    ensures { Tells result (named.member_told units.now spot past member.entry) }
+/// The entry of a member that is known.
+fn entry_known<'r, 'a>(member: Option<NamedMember<'r, 'a>>) -> Option<&'r Entry<'a>>
+    ensures { option_copied result ≡ member.entry }
 {
     match member {
-        Some(member) => member_part(units, member.entry(), spot, past),
-        None => Err(DeadEnd::Marked(Mark::UnsupportedType)),
+        Some(member) => Some(member.entry()),
+        None => None,
     }
 }
 
 /// The member of a name among all of a structure, class or union that stands there.
+#[tactic(auto, using(crate::proofs::NamedLaws::told_found))]
 fn found_part<'r, 'k, 'a>(
     alloc: Global,
     units: &TypedUnits<'r, 'k, 'a>,
@@ -160,10 +155,8 @@ fn found_part<'r, 'k, 'a>(
     let Ok(items) = items_of(alloc, units, view, standing, &spot.place()) else {
         return Err(DeadEnd::NoMemory);
     };
-    match member_named(alloc, units.units(), name, items.as_slice()) {
-        Some(item) => item_part(units, item, spot, past),
-        None => Err(DeadEnd::Marked(Mark::UnsupportedType)),
-    }
+    let member = member_named(alloc, units.units(), name, items.as_slice());
+    member_part(units, member, spot, past)
 }
 
 /// The member of a name of a structure, class or union that stands there. It is looked for among all
@@ -190,7 +183,7 @@ fn member_of<'r, 'k, 'a>(
         return Err(DeadEnd::NoMemory);
     };
     match found {
-        Some(member) => named_part(units, member, spot, past),
+        Some(member) => member_part(units, entry_known(member), spot, past),
         None => found_part(alloc, units, view, name, standing, spot, past),
     }
 }

@@ -74,7 +74,7 @@ pub fn no_members<'r, 'a>(alloc: Global) -> KnownMembers<'r, 'a>
 // ---- the members of one structure
 
 /// Adds a member of a name behind all others.
-#[tactic(auto, using(crate::proofs::NamedLaws::kept_before))]
+#[tactic(auto, using(crate::proofs::NamedLaws::kept_before, crate::proofs::NamedLaws::one_added))]
 fn add_first<'r, 'a>(
     names: &mut MemberNames<'r, 'a>,
     name: &'a [u8],
@@ -175,6 +175,7 @@ impl<'r, 'a> MemberNames<'r, 'a> {
 // ---- those of the structures on a path
 
 /// Keeps the members of a structure.
+#[tactic(auto, using(crate::proofs::NamedLaws::one_known))]
 fn keep<'r, 'a>(
     known: &mut KnownMembers<'r, 'a>,
     at: u32,

@@ -7,11 +7,11 @@ ghost use Rattle.var_eval.specs.calls.Names.{AreNames};
 ghost use Rattle.var_eval.specs.inner.PathTold.{shown_by};
 
 use crate::known_names::chosen_known;
-use crate::{KnownNames, Part, Shown, VariableFrame, no_names, source_of, walk};
+use crate::locations::source_alone;
+use crate::{KnownNames, Part, Shown, VariableFrame, no_names, walk};
 use causes::NoMemory;
 use dwarf_entries::Standing;
 use dwarf_expr::FrameView;
-use dwarf_scopes::no_locations;
 use dwarf_types::{TypedUnits, type_of};
 use pm_text::Text;
 use std::alloc::Global;
@@ -35,6 +35,7 @@ fn shown_of(past: bool, mark: Option<Mark>, text: Text) -> Shown
 }
 
 /// What is shown of a part.
+#[tactic(auto, using(crate::proofs::Told::part_is_shown))]
 fn shown_part<'r, 'k, 'a>(
     alloc: Global,
     units: &TypedUnits<'r, 'k, 'a>,
@@ -49,30 +50,9 @@ fn shown_part<'r, 'k, 'a>(
     Ok(shown_of(part.is_past(), mark, text))
 }
 
-/// What is shown behind steps from a variable.
+/// What is shown behind steps from a variable, if there is one.
 #[tactic(auto, unfolding(crate::specs::PathShown::steps_text))]
 fn shown_behind<'r, 'a>(
-    alloc: Global,
-    frame: &VariableFrame<'_, 'r, '_, '_, '_, 'a>,
-    steps: &[Step<'_>],
-    variable: &Standing<'r, 'a>,
-) -> Result<Shown, NoMemory>
-    ensures { IfOk result (λ shown.
-        shown ≡ shown_as (definitions.steps_text frame.now steps.now variable.now)) }
-{
-    let units = frame.types();
-    let mut lists = no_locations(alloc);
-    let source = source_of(alloc, frame, variable, &mut lists)?;
-    let typed = type_of(units, &variable.entry().attributes);
-    let reached = walk(alloc, units, frame.view(), steps, typed, source)?;
-    match reached {
-        Ok(part) => shown_part(alloc, units, frame.view(), &part),
-        Err(mark) => Ok(Shown::Marked(mark)),
-    }
-}
-
-/// What is shown behind steps from a variable, if there is one.
-fn shown_of_variable<'r, 'a>(
     alloc: Global,
     frame: &VariableFrame<'_, 'r, '_, '_, '_, 'a>,
     steps: &[Step<'_>],
@@ -81,9 +61,16 @@ fn shown_of_variable<'r, 'a>(
     ensures { IfOk result (λ shown.
         shown ≡ definitions.shown_behind frame.now steps.now variable.entry) }
 {
-    match variable {
-        Some(variable) => shown_behind(alloc, frame, steps, &variable),
-        None => Ok(Shown::NoVariable),
+    let Some(variable) = variable else {
+        return Ok(Shown::NoVariable);
+    };
+    let source = source_alone(alloc, frame, &variable)?;
+    let units = frame.types();
+    let typed = type_of(units, &variable.entry().attributes);
+    let reached = walk(alloc, units, frame.view(), steps, typed, source)?;
+    match reached {
+        Ok(part) => shown_part(alloc, units, frame.view(), &part),
+        Err(mark) => Ok(Shown::Marked(mark)),
     }
 }
 
@@ -114,7 +101,7 @@ pub fn value_by<'r, 'a>(
         names,
         path.name.as_slice(),
     )?;
-    shown_of_variable(alloc, frame, path.steps.as_slice(), variable)
+    shown_behind(alloc, frame, path.steps.as_slice(), variable)
 }
 
 /// The same of one path alone.
@@ -126,6 +113,5 @@ pub fn value_of<'r, 'a>(
     ensures { IfOk result (λ shown. shown ≡ definitions.path_shown frame.now path.now) }
 {
     let mut names = no_names();
-    let shown = value_by(alloc, frame, &mut names, path)?;
-    Ok(shown)
+    value_by(alloc, frame, &mut names, path)
 }

@@ -51,8 +51,8 @@ pub fn is_same_by(text: &[u8], name: &[u8], places: &[usize]) -> bool
 /// Keeps where a text first differs from a name of its length. Without memory for it such texts are
 /// compared as a whole.
 fn keep_difference(text: &[u8], name: &[u8], places: &mut Items<usize>) {
-    for (at, byte) in text.iter().enumerate() {
-        if name.get(at) != Some(byte) {
+    for at in 0..text.len() {
+        if differ_at(text, name, at) {
             let _ = places.push(at);
             return;
         }

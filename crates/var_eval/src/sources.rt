@@ -13,7 +13,7 @@ use crate::locations::lists_of;
 use causes::NoMemory;
 use dwarf_entries::names::LOCATION;
 use dwarf_entries::{Standing, attribute};
-use dwarf_info::AttrValue;
+use dwarf_info::{AttrValue, Sections5, Unit};
 use dwarf_loc::Span;
 use dwarf_scopes::{
     KnownLocations, ListWay, is_same_way, known_location_in, no_locations, way_number, way_of,
@@ -96,33 +96,29 @@ pub fn known_source(
     None
 }
 
-/// Keeps where a variable comes from.
-fn keep(sources: &mut BTreeMap<u128, KnownSource>, found: KnownSource) -> Result<(), NoMemory>
-    ensures { (f : Frame) → AreSourced f sources.old → found.source ≡ sourced_at f found.place
-        → AreSourced f sources.new }
-{
-    let number = number_of(found.place);
-    sources.insert(number, found)?;
-    Ok(())
+/// How many long expressions fit side by side into the section of a unit's location lists.
+pub fn room_of<'a>(sections: &Sections5<'a>, unit: &Unit<'a>) -> usize {
+    lists_of(sections, unit).len() / LONG
 }
 
-/// Keeps where a variable comes from by a long expression. No more are kept than long expressions
-/// fit into the section of its lists side by side, so that those that overlap take no more memory.
-pub fn keep_source<'r, 'a>(
-    frame: &VariableFrame<'_, '_, '_, '_, '_, 'a>,
-    variable: &Standing<'r, 'a>,
+/// Keeps where a variable comes from by a long expression, as long as there is room: no more are kept
+/// than fit into the section of its lists side by side, so that those that overlap take no more
+/// memory.
+#[tactic(auto, using(crate::proofs::SourceLaws::source_kept, crate::proofs::SourceLaws::sources_same))]
+pub fn keep_source(
+    room: usize,
     sources: &mut BTreeMap<u128, KnownSource>,
     found: KnownSource,
 ) -> Result<(), NoMemory>
-    requires right { AreSourced frame.now sources.old }
-    requires is { found.source ≡ sourced_at frame.now found.place }
-    ensures { AreSourced frame.now sources.new }
+    ensures { (f : Frame) → AreSourced f sources.old → found.source ≡ sourced_at f found.place
+        → AreSourced f sources.new }
 {
-    let room = lists_of(frame.sections(), variable.unit()).len() / LONG;
     if sources.len() >= room {
         return Ok(());
     }
-    keep(sources, found)
+    let number = number_of(found.place);
+    sources.insert(number, found)?;
+    Ok(())
 }
 
 /// The span of a long expression.

@@ -8,10 +8,10 @@ ghost use Rattle.var_eval.specs.Shown as shown;
 ghost use Rattle.var_eval.specs.calls.Sourced.{sourced_at, AreKnown};
 
 use crate::frame::VariableFrame;
-use crate::locations::source_of;
+use crate::locations::{source_alone, source_of};
 use crate::shown::Shown;
 use crate::sources::{
-    ExpressionPlace, KnownSource, KnownSources, keep_source, known_source, long_place, no_sources,
+    ExpressionPlace, KnownSource, KnownSources, keep_source, known_source, long_place, room_of,
 };
 use causes::NoMemory;
 use dwarf_entries::{Standing, standing_at};
@@ -63,12 +63,8 @@ fn push_long<'r, 'a>(
     }
     let source = source_of(alloc, frame, variable, &mut known.lists)?;
     let mark = push_from(alloc, text, frame, variable, &source)?;
-    keep_source(
-        frame,
-        variable,
-        &mut known.sources,
-        KnownSource { place, source },
-    )?;
+    let room = room_of(frame.sections(), variable.unit());
+    keep_source(room, &mut known.sources, KnownSource { place, source })?;
     Ok(mark)
 }
 
@@ -119,9 +115,9 @@ fn shown_whole<'r, 'a>(
 ) -> Result<Shown, NoMemory>
     ensures { IfOk result (λ s. s ≡ shown.shown_as (shown.variable_text frame.now variable.now)) }
 {
+    let source = source_alone(alloc, frame, variable)?;
     let mut text = Text::new(alloc);
-    let mut known = no_sources(alloc);
-    match push_whole(alloc, &mut text, frame, variable, &mut known)? {
+    match push_from(alloc, &mut text, frame, variable, &source)? {
         Some(mark) => Ok(Shown::Marked(mark)),
         None => Ok(Shown::Text(text)),
     }

@@ -12,6 +12,8 @@ use Rattle.dwarf_types.specs.declared.behind.Typed.{Typed}
 use Rattle.dwarf_types.specs.declared.behind.Typed.TheVariants as typeds
 use Rattle.var_path.specs.declared.path.Step.{Step}
 use Rattle.var_path.specs.declared.path.Step.TheVariants.{Index}
+use Rattle.var_values.specs.declared.item.Item.{Item}
+use Rattle.var_values.specs.declared.item.Item.TheVariants as items
 use Rattle.var_values.specs.declared.mark.Mark.TheVariants.{UnsupportedType}
 use Rattle.var_values.specs.Bytes.{Recorded}
 use Rattle.var_values.specs.Places.{Place}
@@ -36,6 +38,11 @@ member_at units depth e name = if is_child depth tag_member e then own_at e (nam
 
 abbrev pub first_by : MemberNames → List ℕ → Option Entry
 first_by m name = get_by (λ k. slice_cmp nat_cmp name k.now) m.first
+
+-- the entry of what stands in a structure, unless it is in the place of a variant part
+abbrev pub entry_of : Item → Option Entry
+entry_of (items.Member x) = Some x.entry
+entry_of (items.Unknown m) = None
 
 -- what a step to that member of a structure leads to
 abbrev pub member_told : List UnitAnswer → Place → Bool → Option Entry → Reached
