@@ -3,7 +3,8 @@
 ghost use Rattle.std.specs.Prelude.{◌≡◌, ◌++◌, IfOk, OnOk};
 ghost use Rattle.dump_format.specs.calls.Contained.{IsContained, IsLimited};
 ghost use Rattle.dump_format.specs.Decode.{dump_from};
-ghost use Rattle.debugger.specs.Subject.{Spells};
+ghost use Rattle.debugger.specs.Session.{PrintsAll};
+ghost use Rattle.debugger.specs.Subject.{Spells, subject_of};
 ghost use Rattle.debug_command.specs.Answer as answers;
 ghost use Rattle.commands.specs.calls.Ended.{Ended};
 
@@ -49,6 +50,20 @@ fn mismatched(alloc: Global, row: Mismatch) -> Result<Outcome, NoMemory>
     })
 }
 
+/// What commands print on a module, which these bytes spell, and a dump that can be one of it.
+fn texts_of(
+    alloc: Global,
+    bytes: &[u8],
+    matched: Matched<'_, '_, '_>,
+    commands: &[Text],
+) -> Result<Text, NoMemory>
+    requires { Spells bytes.now matched.module_ }
+    ensures { IfOk result (PrintsAll (subject_of bytes.now matched.entry) 0 commands.now) }
+{
+    let mut session = Session::new(alloc, bytes, matched)?;
+    printed(alloc, &mut session, commands)
+}
+
 /// The texts of commands on a module, which these bytes spell, and a dump that can be one of it.
 fn told(
     alloc: Global,
@@ -61,8 +76,7 @@ fn told(
         matched.entry.dump) }
     ensures ended { IfOk result (Ended (λ _. ⊥)) }
 {
-    let mut session = Session::new(alloc, bytes, matched)?;
-    let text = printed(alloc, &mut session, commands)?;
+    let text = texts_of(alloc, bytes, matched, commands)?;
     Ok(Outcome {
         status: Status::Done,
         text,

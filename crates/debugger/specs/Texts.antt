@@ -1,5 +1,5 @@
 -- The texts of frames, and of the values that a dump records.
-use Rattle.std.specs.Prelude.{◌≡◌, ℕ, ◌+◌, List, ◌++◌, length, slice_get, Option, Some, None, codes}
+use Rattle.std.specs.Prelude.{ℕ, List, ◌++◌, length, slice_get, Option, Some, None, codes}
 use Rattle.std.specs.Fmt.{decimal}
 use Rattle.wasm_syntax.specs.declared.parts.FuncType.{FuncType}
 use Rattle.wasm_syntax.specs.declared.parts.Body.{Body}

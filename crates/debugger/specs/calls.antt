@@ -2,3 +2,4 @@
 pub mod Sitting
 pub mod Words
 pub mod Types
+pub mod Parts

@@ -1,86 +1,69 @@
 //! The texts that commands print.
 
 ghost use Rattle.std.specs.Prelude.{◌≡◌, ◌++◌, Some, IfOk, OnOk, option_copied, slice_get};
+ghost use Rattle.var_eval.specs.PathShown.{path_shown};
 ghost use Rattle.var_eval.specs.calls.Names.{AreNames};
-ghost use Rattle.debugger.specs.Texts as texts;
 ghost use Rattle.debugger.specs.Variables as variables;
 ghost use Rattle.debugger.specs.Session as definitions;
+ghost use Rattle.debugger.specs.calls.Parts as parts_there;
 ghost use Rattle.debugger.specs.calls.Types.{AreTypes};
 
 use crate::known_types::KnownTypes;
 use crate::view::{Chosen, looks_of, view_of};
 use crate::{
     Command, Information, Subject, push_backtrace, push_frame_at, push_globals, push_locals,
-    push_memory, push_no_frame, push_operands, push_path, push_unread, push_variables, second_word,
+    push_memory, push_no_frame, push_operands, push_path, push_variables, second_word,
 };
 use causes::NoMemory;
+use debug_frames::push_unreadable;
 use dump_format::Frame;
+use dwarf_expr::FrameView;
 use pm_text::Text;
 use std::alloc::Global;
 use var_eval::KnownNames;
 use var_path::{Path, parse_path};
+use wasm_syntax::ModuleParts;
 
 /// The frame of an index.
-fn frame_at<'s>(subject: &'s Subject<'_, '_, '_, '_>, index: u32) -> Option<&'s Frame>
-    ensures { option_copied result ≡ slice_get subject.now.frames index }
+fn frame_at(frames: &[Frame], index: u32) -> Option<&Frame>
+    ensures { option_copied result ≡ slice_get frames.now index }
 {
-    subject.frames().get(index as usize)
+    frames.get(index as usize)
 }
 
-/// Adds the locals of the chosen frame.
-fn push_chosen_locals(
-    out: &mut Text,
-    subject: &Subject<'_, '_, '_, '_>,
-    chosen: u32,
-) -> Result<(), NoMemory>
-    ensures { OnOk result (out.new
-        ≡ out.old ++ definitions.of_chosen subject.now chosen (texts.locals_text subject.now)) }
+#[tactic(auto, unfolding(crate::specs::Session::bad_text))]
+fn push_bad(out: &mut Text) -> Result<(), NoMemory>
+    ensures { OnOk result (out.new ≡ out.old ++ definitions.bad_text) }
 {
-    match frame_at(subject, chosen) {
-        Some(frame) => push_locals(out, subject, frame),
-        None => push_no_frame(out, 0),
-    }
+    out.push_str("bad command\n")
 }
 
-/// Adds the operands of the chosen frame.
-fn push_chosen_operands(
-    out: &mut Text,
-    subject: &Subject<'_, '_, '_, '_>,
-    chosen: Chosen,
-) -> Result<(), NoMemory>
-    ensures { OnOk result (out.new ≡ out.old
-        ++ definitions.of_chosen subject.now chosen.index (texts.operands_text chosen.operands)) }
-{
-    match frame_at(subject, chosen.index) {
-        Some(frame) => push_operands(out, frame, chosen.operands),
-        None => push_no_frame(out, 0),
-    }
-}
+// ---- the variables of the chosen frame
 
 /// Adds the variables that are visible in a frame, which is the chosen one.
-#[tactic(auto, unfolding(crate::specs::Variables::variables_text))]
 fn push_frame_variables(
     out: &mut Text,
     alloc: Global,
     information: &Information<'_>,
     types: &KnownTypes,
-    subject: &Subject<'_, '_, '_, '_>,
-    chosen: Chosen,
+    parts: &ModuleParts,
     frame: &Frame,
+    chosen: Chosen,
+    view: &FrameView<'_>,
 ) -> Result<(), NoMemory>
-    requires information { information.now ≡ subject.now.information }
-    requires types { AreTypes subject.now.information.units types.now }
-    ensures { OnOk result (out.new ≡ out.old ++ variables.variables_text subject.now
-        (variables.left_in chosen.index chosen.operands) frame.now) }
+    requires { AreTypes information.now.units types.now }
+    ensures { OnOk result (out.new ≡ out.old ++ variables.all_variables
+        (parts_there.looks_in information.now parts.now frame.now view.now
+        (variables.left_in chosen.index chosen.operands))) }
 {
-    let view = view_of(subject, frame);
     let typed = types.typed(information.units());
-    let looks = looks_of(alloc, information, subject, frame, chosen, &view, typed)?;
+    let looks = looks_of(alloc, information, parts, frame, chosen, view, typed)?;
     push_variables(out, alloc, &looks)
 }
 
-/// Adds the variables that are visible in the chosen frame.
-fn push_chosen_variables(
+/// Adds the variables that are visible in the chosen frame, behind what could not be read.
+#[tactic(auto, unfolding(crate::specs::Session::chosen_variables, crate::specs::Variables::variables_text))]
+fn push_variables_by(
     out: &mut Text,
     alloc: Global,
     information: &Information<'_>,
@@ -90,64 +73,160 @@ fn push_chosen_variables(
 ) -> Result<(), NoMemory>
     requires information { information.now ≡ subject.now.information }
     requires types { AreTypes subject.now.information.units types.now }
-    ensures { OnOk result (out.new ≡ out.old ++ definitions.of_chosen subject.now chosen.index
-        (variables.variables_text subject.now
-        (variables.left_in chosen.index chosen.operands))) }
+    ensures { OnOk result (out.new ≡ out.old
+        ++ definitions.chosen_variables subject.now chosen.index chosen.operands) }
 {
-    match frame_at(subject, chosen.index) {
-        Some(frame) => push_frame_variables(out, alloc, information, types, subject, chosen, frame),
-        None => push_no_frame(out, 0),
-    }
+    push_unreadable(out, information)?;
+    let Some(frame) = frame_at(subject.frames(), chosen.index) else {
+        return push_no_frame(out, 0);
+    };
+    let view = view_of(frame, subject.globals(), subject.memory());
+    push_frame_variables(
+        out,
+        alloc,
+        information,
+        types,
+        subject.parts(),
+        frame,
+        chosen,
+        &view,
+    )
 }
 
-/// The line of what stands at a path in a frame, which is the chosen one.
+fn push_chosen_variables<'a>(
+    out: &mut Text,
+    alloc: Global,
+    information: &Information<'a>,
+    subject: &mut Subject<'a, '_, '_, '_>,
+    chosen: Chosen,
+) -> Result<(), NoMemory>
+    requires { information.now ≡ subject.old.information }
+    ensures text { OnOk result (out.new ≡ out.old
+        ++ definitions.chosen_variables subject.old chosen.index chosen.operands) }
+    ensures same { subject.new ≡ subject.old }
+{
+    let types = subject.take_types(alloc, information)?;
+    let pushed = push_variables_by(out, alloc, information, &types, subject, chosen);
+    subject.keep_types(types);
+    pushed
+}
+
+// ---- a path in the chosen frame
+
+/// Adds the line of what stands at a path in a frame, which is the chosen one.
+fn push_frame_path<'a>(
+    out: &mut Text,
+    alloc: Global,
+    information: &Information<'a>,
+    types: &KnownTypes,
+    names: &mut KnownNames<'a>,
+    parts: &ModuleParts,
+    frame: &Frame,
+    chosen: Chosen,
+    view: &FrameView<'_>,
+    word: &str,
+    path: &Path<'_>,
+) -> Result<(), NoMemory>
+    requires types { AreTypes information.now.units types.now }
+    requires names { AreNames information.now.sections information.now.units names.old }
+    ensures text { OnOk result (out.new ≡ out.old ++ variables.shown_line path.now.name word.now
+        (path_shown (parts_there.looks_in information.now parts.now frame.now view.now
+        (variables.left_in chosen.index chosen.operands)) path.now)) }
+    ensures known { AreNames information.now.sections information.now.units names.new }
+{
+    let typed = types.typed(information.units());
+    let looks = looks_of(alloc, information, parts, frame, chosen, view, typed)?;
+    push_path(out, alloc, &looks, names, word, path)
+}
+
+/// Adds the line of what stands at a path in the chosen frame.
 #[tactic(auto, unfolding(crate::specs::Variables::path_text))]
-fn path_line<'a>(
+fn push_path_by<'a>(
+    out: &mut Text,
     alloc: Global,
     information: &Information<'a>,
     types: &KnownTypes,
     names: &mut KnownNames<'a>,
     subject: &Subject<'_, '_, '_, '_>,
     chosen: Chosen,
-    frame: &Frame,
     word: &str,
     path: &Path<'_>,
-) -> Answer
+) -> Result<(), NoMemory>
     requires information { information.now ≡ subject.now.information }
     requires types { AreTypes subject.now.information.units types.now }
     requires names { AreNames subject.now.information.sections subject.now.information.units
         names.old }
-    ensures text { IfOk result (λ text. text ≡ variables.path_text subject.now
-        (variables.left_in chosen.index chosen.operands) word.now path.now frame.now) }
+    ensures text { OnOk result (out.new ≡ out.old ++ definitions.chosen_path subject.now
+        chosen.index chosen.operands word.now (Some path.now)) }
     ensures known { AreNames subject.now.information.sections subject.now.information.units
         names.new }
 {
-    let view = view_of(subject, frame);
-    let typed = types.typed(information.units());
-    let looks = looks_of(alloc, information, subject, frame, chosen, &view, typed)?;
-    let mut out = Text::new(alloc);
-    push_path(&mut out, alloc, &looks, names, word, path)?;
-    Ok(out)
+    let Some(frame) = frame_at(subject.frames(), chosen.index) else {
+        return push_no_frame(out, 0);
+    };
+    let view = view_of(frame, subject.globals(), subject.memory());
+    let parts = subject.parts();
+    push_frame_path(
+        out,
+        alloc,
+        information,
+        types,
+        names,
+        parts,
+        frame,
+        chosen,
+        &view,
+        word,
+        path,
+    )
 }
 
-/// What a command prints.
-type Answer = Result<Text, NoMemory>;
-
-fn backtrace_by(
+fn push_chosen_path<'a>(
+    out: &mut Text,
     alloc: Global,
-    information: &Information<'_>,
-    subject: &Subject<'_, '_, '_, '_>,
-) -> Answer
-    requires { information.now ≡ subject.now.information }
-    ensures { IfOk result (λ text. text ≡ texts.backtrace_text subject.now) }
+    information: &Information<'a>,
+    subject: &mut Subject<'a, '_, '_, '_>,
+    chosen: Chosen,
+    word: &str,
+    path: &Path<'_>,
+) -> Result<(), NoMemory>
+    requires { information.now ≡ subject.old.information }
+    ensures text { OnOk result (out.new ≡ out.old ++ definitions.chosen_path subject.old
+        chosen.index chosen.operands word.now (Some path.now)) }
+    ensures same { subject.new ≡ subject.old }
 {
-    let mut out = Text::new(alloc);
-    push_backtrace(&mut out, alloc, information, subject)?;
-    Ok(out)
+    let types = subject.take_types(alloc, information)?;
+    let mut names = subject.take_names();
+    let pushed = push_path_by(
+        out,
+        alloc,
+        information,
+        &types,
+        &mut names,
+        subject,
+        chosen,
+        word,
+        path,
+    );
+    subject.keep_names(names);
+    subject.keep_types(types);
+    pushed
 }
+
+// ---- what is printed by what the bytes of the module say
 
 /// For so few frames to gather the subprograms takes longer than to go through the entries for each.
 const FEW: usize = 4;
+
+/// Whether to gather the subprograms pays for a command: for all but a few frames, where what the
+/// bytes of the module say is read only now.
+fn gathering_pays(command: Command, is_read: bool, frames: usize) -> bool {
+    match command {
+        Command::Backtrace => is_read || frames > FEW,
+        Command::Frame { .. } => is_read,
+        _ => true,
+    }
+}
 
 /// Gathers the subprograms where that pays.
 fn gather_where(
@@ -164,218 +243,159 @@ fn gather_where(
     }
 }
 
-fn backtrace(alloc: Global, subject: &mut Subject<'_, '_, '_, '_>) -> Answer
-    ensures text { IfOk result (λ text. text ≡ texts.backtrace_text subject.old) }
-    ensures same { subject.new ≡ subject.old }
-{
-    let pays = subject.is_read() || subject.frames().len() > FEW;
-    let mut information = subject.take_information(alloc)?;
-    gather_where(alloc, &mut information, pays)?;
-    let answer = backtrace_by(alloc, &information, subject);
-    subject.keep_information(information);
-    answer
-}
-
-fn one_frame_by(
-    alloc: Global,
-    information: &Information<'_>,
-    subject: &Subject<'_, '_, '_, '_>,
-    number: u64,
-) -> Answer
-    requires { information.now ≡ subject.now.information }
-    ensures { IfOk result (λ text. text ≡ texts.frame_text_at subject.now number) }
-{
-    let mut out = Text::new(alloc);
-    push_frame_at(&mut out, alloc, information, subject, number)?;
-    Ok(out)
-}
-
-fn one_frame(alloc: Global, subject: &mut Subject<'_, '_, '_, '_>, number: u64) -> Answer
-    ensures text { IfOk result (λ text. text ≡ texts.frame_text_at subject.old number) }
-    ensures same { subject.new ≡ subject.old }
-{
-    let pays = subject.is_read();
-    let mut information = subject.take_information(alloc)?;
-    gather_where(alloc, &mut information, pays)?;
-    let answer = one_frame_by(alloc, &information, subject, number);
-    subject.keep_information(information);
-    answer
-}
-
-fn locals(alloc: Global, subject: &Subject<'_, '_, '_, '_>, chosen: u32) -> Answer
-    ensures { IfOk result (λ text. text
-        ≡ definitions.of_chosen subject.now chosen (texts.locals_text subject.now)) }
-{
-    let mut out = Text::new(alloc);
-    push_chosen_locals(&mut out, subject, chosen)?;
-    Ok(out)
-}
-
-fn operands(alloc: Global, subject: &Subject<'_, '_, '_, '_>, chosen: Chosen) -> Answer
-    ensures { IfOk result (λ text. text ≡ definitions.of_chosen subject.now chosen.index
-        (texts.operands_text chosen.operands)) }
-{
-    let mut out = Text::new(alloc);
-    push_chosen_operands(&mut out, subject, chosen)?;
-    Ok(out)
-}
-
-fn no_frame(alloc: Global) -> Answer
-    ensures { IfOk result (λ text. text ≡ texts.no_frame 0) }
-{
-    let mut out = Text::new(alloc);
-    push_no_frame(&mut out, 0)?;
-    Ok(out)
-}
-
-fn globals(alloc: Global, subject: &Subject<'_, '_, '_, '_>) -> Answer
-    ensures { IfOk result (λ text. text ≡ texts.globals_text subject.now) }
-{
-    let mut out = Text::new(alloc);
-    push_globals(&mut out, subject)?;
-    Ok(out)
-}
-
-#[tactic(auto, unfolding(crate::specs::Session::chosen_variables))]
-fn variables_by(
-    alloc: Global,
-    information: &Information<'_>,
-    types: &KnownTypes,
-    subject: &Subject<'_, '_, '_, '_>,
-    chosen: Chosen,
-) -> Answer
-    requires information { information.now ≡ subject.now.information }
-    requires types { AreTypes subject.now.information.units types.now }
-    ensures { IfOk result (λ text. text
-        ≡ definitions.chosen_variables subject.now chosen.index chosen.operands) }
-{
-    let mut out = Text::new(alloc);
-    push_unread(&mut out, information, subject)?;
-    push_chosen_variables(&mut out, alloc, information, types, subject, chosen)?;
-    Ok(out)
-}
-
-fn variables(alloc: Global, subject: &mut Subject<'_, '_, '_, '_>, chosen: Chosen) -> Answer
-    ensures text { IfOk result (λ text. text
-        ≡ definitions.chosen_variables subject.old chosen.index chosen.operands) }
-    ensures same { subject.new ≡ subject.old }
-{
-    let mut information = subject.take_information(alloc)?;
-    information.gather(alloc)?;
-    let types = subject.take_types(alloc, &information)?;
-    let answer = variables_by(alloc, &information, &types, subject, chosen);
-    subject.keep_types(types);
-    subject.keep_information(information);
-    answer
-}
-
-fn at_path_by<'a>(
+/// Adds what a command prints by what the bytes of the module say; `print` at this path.
+fn push_informed_by<'a>(
+    out: &mut Text,
     alloc: Global,
     information: &Information<'a>,
-    types: &KnownTypes,
-    names: &mut KnownNames<'a>,
-    subject: &Subject<'_, '_, '_, '_>,
+    subject: &mut Subject<'a, '_, '_, '_>,
     chosen: Chosen,
     word: &str,
-    path: &Path<'_>,
-) -> Answer
-    requires information { information.now ≡ subject.now.information }
-    requires types { AreTypes subject.now.information.units types.now }
-    requires names { AreNames subject.now.information.sections subject.now.information.units
-        names.old }
-    ensures text { IfOk result (λ text. text ≡ definitions.chosen_path subject.now chosen.index
-        chosen.operands word.now (Some path.now)) }
-    ensures known { AreNames subject.now.information.sections subject.now.information.units
-        names.new }
+    path: Option<&Path<'_>>,
+    command: Command,
+) -> Result<(), NoMemory>
+    requires { information.now ≡ subject.old.information }
+    ensures text { OnOk result (out.new ≡ out.old ++ parts_there.informed_text subject.old
+        chosen.index chosen.operands word.now (option_copied path.entry) command) }
+    ensures same { subject.new ≡ subject.old }
 {
-    match frame_at(subject, chosen.index) {
-        Some(frame) => path_line(
-            alloc,
-            information,
-            types,
-            names,
-            subject,
-            chosen,
-            frame,
-            word,
-            path,
-        ),
-        None => no_frame(alloc),
+    match command {
+        Command::Backtrace => push_backtrace(out, alloc, information, subject),
+        Command::Frame { number } => push_frame_at(out, alloc, information, subject, number),
+        Command::Variables => push_chosen_variables(out, alloc, information, subject, chosen),
+        Command::Print => match path {
+            Some(path) => { push_chosen_path(out, alloc, information, subject, chosen, word, path) }
+            None => push_bad(out),
+        },
+        _ => push_bad(out),
     }
 }
 
-fn at_path(
+/// The same, where the subprograms are gathered first if that pays.
+fn push_gathered<'a>(
+    out: &mut Text,
     alloc: Global,
-    subject: &mut Subject<'_, '_, '_, '_>,
+    information: &mut Information<'a>,
+    pays: bool,
+    subject: &mut Subject<'a, '_, '_, '_>,
     chosen: Chosen,
     word: &str,
-    path: &Path<'_>,
-) -> Answer
-    ensures text { IfOk result (λ text. text ≡ definitions.chosen_path subject.old chosen.index
-        chosen.operands word.now (Some path.now)) }
+    path: Option<&Path<'_>>,
+    command: Command,
+) -> Result<(), NoMemory>
+    requires { information.old ≡ subject.old.information }
+    ensures text { OnOk result (out.new ≡ out.old ++ parts_there.informed_text subject.old
+        chosen.index chosen.operands word.now (option_copied path.entry) command) }
     ensures same { subject.new ≡ subject.old }
+    ensures kept { information.new ≡ information.old }
 {
-    let mut information = subject.take_information(alloc)?;
-    information.gather(alloc)?;
-    let types = subject.take_types(alloc, &information)?;
-    let mut names = subject.take_names();
-    let answer = at_path_by(
+    gather_where(alloc, information, pays)?;
+    push_informed_by(
+        out,
         alloc,
-        &information,
-        &types,
-        &mut names,
+        information,
         subject,
         chosen,
         word,
         path,
-    );
-    subject.keep_names(names);
-    subject.keep_types(types);
-    subject.keep_information(information);
-    answer
+        command,
+    )
 }
 
-fn at_word(
+/// Adds what a command prints by what the bytes of the module say, which is read where it was not.
+fn push_informed(
+    out: &mut Text,
     alloc: Global,
     subject: &mut Subject<'_, '_, '_, '_>,
     chosen: Chosen,
     word: &str,
-) -> Answer
-    ensures text { IfOk result (λ text. text
-        ≡ definitions.word_text subject.old chosen.index chosen.operands word.now) }
+    path: Option<&Path<'_>>,
+    command: Command,
+) -> Result<(), NoMemory>
+    ensures text { OnOk result (out.new ≡ out.old ++ parts_there.informed_text subject.old
+        chosen.index chosen.operands word.now (option_copied path.entry) command) }
+    ensures same { subject.new ≡ subject.old }
+{
+    let pays = gathering_pays(command, subject.is_read(), subject.frames().len());
+    let mut information = subject.take_information(alloc)?;
+    let pushed = push_gathered(
+        out,
+        alloc,
+        &mut information,
+        pays,
+        subject,
+        chosen,
+        word,
+        path,
+        command,
+    );
+    subject.keep_information(information);
+    pushed
+}
+
+fn push_at_word(
+    out: &mut Text,
+    alloc: Global,
+    subject: &mut Subject<'_, '_, '_, '_>,
+    chosen: Chosen,
+    word: &str,
+) -> Result<(), NoMemory>
+    ensures text { OnOk result (out.new ≡ out.old
+        ++ definitions.word_text subject.old chosen.index chosen.operands word.now) }
     ensures same { subject.new ≡ subject.old }
 {
     match parse_path(alloc, word)? {
-        Some(path) => at_path(alloc, subject, chosen, word, &path),
-        None => bad(alloc),
+        Some(path) => {
+            push_informed(
+                out,
+                alloc,
+                subject,
+                chosen,
+                word,
+                Some(&path),
+                Command::Print,
+            )
+        }
+        None => push_bad(out),
     }
 }
 
-fn memory(alloc: Global, subject: &Subject<'_, '_, '_, '_>, at: u64, count: u64) -> Answer
-    ensures { IfOk result (λ text. text ≡ texts.memory_text subject.now at count) }
-{
-    let mut out = Text::new(alloc);
-    push_memory(&mut out, alloc, subject, at, count)?;
-    Ok(out)
-}
+// ---- all commands
 
-#[tactic(auto, unfolding(crate::specs::Session::bad_text))]
-fn bad(alloc: Global) -> Answer
-    ensures { IfOk result (λ text. text ≡ definitions.bad_text) }
+/// Adds what a command prints where a frame is chosen, which shows so many operands.
+fn push_printed(
+    out: &mut Text,
+    alloc: Global,
+    subject: &mut Subject<'_, '_, '_, '_>,
+    chosen: Chosen,
+    given: &str,
+    command: Command,
+) -> Result<(), NoMemory>
+    ensures text { OnOk result (out.new ≡ out.old ++ definitions.printed subject.old chosen.index
+        chosen.operands given.now command) }
+    ensures same { subject.new ≡ subject.old }
 {
-    Text::from_str(alloc, "bad command\n")
-}
-
-/// How many operands the frame of an index shows; none where there is no such frame.
-fn shown_at(subject: &Subject<'_, '_, '_, '_>, index: u32) -> u32
-    ensures { definitions.Shows subject.now index (slice_get subject.now.frames index) result }
-{
-    if (index as usize) < subject.frames().len() {
-        subject.operand_count(index)
-    } else {
-        0
+    match command {
+        Command::Backtrace => push_informed(out, alloc, subject, chosen, "", None, command),
+        Command::Frame { .. } => push_informed(out, alloc, subject, chosen, "", None, command),
+        Command::Variables => push_informed(out, alloc, subject, chosen, "", None, command),
+        Command::Print => push_at_word(out, alloc, subject, chosen, second_word(given)),
+        Command::Locals => match frame_at(subject.frames(), chosen.index) {
+            Some(frame) => push_locals(out, subject, frame),
+            None => push_no_frame(out, 0),
+        },
+        Command::Operands => match frame_at(subject.frames(), chosen.index) {
+            Some(frame) => push_operands(out, frame, chosen.operands),
+            None => push_no_frame(out, 0),
+        },
+        Command::Globals => push_globals(out, subject),
+        Command::Examine { address, count } => push_memory(out, alloc, subject, address, count),
+        Command::Bad => push_bad(out),
     }
 }
+
+/// What a command prints.
+type Answer = Result<Text, NoMemory>;
 
 /// What a command prints where a frame is chosen, which shows so many operands.
 fn printed(
@@ -389,16 +409,19 @@ fn printed(
         chosen.operands given.now command) }
     ensures same { subject.new ≡ subject.old }
 {
-    match command {
-        Command::Backtrace => backtrace(alloc, subject),
-        Command::Frame { number } => one_frame(alloc, subject, number),
-        Command::Locals => locals(alloc, subject, chosen.index),
-        Command::Operands => operands(alloc, subject, chosen),
-        Command::Globals => globals(alloc, subject),
-        Command::Variables => variables(alloc, subject, chosen),
-        Command::Print => at_word(alloc, subject, chosen, second_word(given)),
-        Command::Examine { address, count } => memory(alloc, subject, address, count),
-        Command::Bad => bad(alloc),
+    let mut out = Text::new(alloc);
+    push_printed(&mut out, alloc, subject, chosen, given, command)?;
+    Ok(out)
+}
+
+/// How many operands the frame of an index shows; none where there is no such frame.
+fn shown_at(subject: &Subject<'_, '_, '_, '_>, index: u32) -> u32
+    ensures { definitions.Shows subject.now index (slice_get subject.now.frames index) result }
+{
+    if (index as usize) < subject.frames().len() {
+        subject.operand_count(index)
+    } else {
+        0
     }
 }
 

@@ -1,6 +1,6 @@
 //! A session of commands.
 
-ghost use Rattle.std.specs.Prelude.{◌≡◌, IfOk, IfSome, None, slice_get};
+ghost use Rattle.std.specs.Prelude.{◌≡◌, ◌<◌, ◌^◌, IfOk, IfSome, None, slice_get, length};
 ghost use Rattle.debug_frames.specs.Information.{information};
 ghost use Rattle.debugger.specs.Subject.{subject_of, subject_on, Spells};
 ghost use Rattle.debugger.specs.Session.{chosen_of, chosen_behind};
@@ -9,6 +9,7 @@ ghost use Rattle.debugger.specs.calls.Sitting.{sitting, Answers};
 use crate::answers::answer;
 use crate::{Command, Information, Subject, read_command};
 use causes::NoMemory;
+use dump_format::Frame;
 use dump_match::{Matched, StateMatched};
 use pm_text::Text;
 use std::alloc::Global;
@@ -34,16 +35,17 @@ fn chosen_behind(subject: &Subject<'_, '_, '_, '_>, chosen: u32, command: Comman
     ensures { result ≡ chosen_behind subject.now chosen command }
 {
     match command {
-        Command::Frame { number } => chosen_of(subject, chosen, number),
+        Command::Frame { number } => chosen_of(subject.frames(), chosen, number),
         _ => chosen,
     }
 }
 
 /// The frame of a number, where it is there, else the one that was chosen.
-fn chosen_of(subject: &Subject<'_, '_, '_, '_>, chosen: u32, number: u64) -> u32
-    ensures { result ≡ chosen_of chosen number (slice_get subject.now.frames number) }
+fn chosen_of(frames: &[Frame], chosen: u32, number: u64) -> u32
+    requires { length frames.now < 2 ^ 32 }
+    ensures { result ≡ chosen_of chosen number (slice_get frames.now number) }
 {
-    if number < subject.frames().len() as u64 {
+    if number < frames.len() as u64 {
         number as u32
     } else {
         chosen

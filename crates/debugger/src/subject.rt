@@ -79,6 +79,20 @@ fn memory_of(alloc: Global, matched: &StateMatched<'_, '_, '_>) -> Result<Option
     recorded_memory(alloc, matched.dump())
 }
 
+/// The globals and the memory that a dump records.
+fn recorded_of(
+    alloc: Global,
+    matched: &StateMatched<'_, '_, '_>,
+) -> Result<(Items<Seen>, Option<Memory>), NoMemory>
+    ensures globals { IfOk result (λ x. x.0 ≡ recorded.recorded_globals matched.now.dump) }
+    ensures memory { IfOk result (λ x. option_map (λ m. m.memory) x.1
+        ≡ recorded.recorded_memory matched.now.dump) }
+{
+    let globals = globals_of(alloc, matched)?;
+    let memory = memory_of(alloc, matched)?;
+    Ok((globals, memory))
+}
+
 /// What the bytes of a module say, which are those that it was decoded from.
 fn information_of<'a>(
     alloc: Global,
@@ -105,8 +119,7 @@ impl<'a, 'm, 'd, 'b> Subject<'a, 'm, 'd, 'b> {
             (information bytes.now matched.entry.module_.customs)
             matched.entry.module_ matched.entry.dump) }
     {
-        let globals = globals_of(alloc, &matched)?;
-        let memory = memory_of(alloc, &matched)?;
+        let (globals, memory) = recorded_of(alloc, &matched)?;
         Ok(Subject {
             bytes,
             known,
@@ -157,10 +170,7 @@ impl<'a, 'm, 'd, 'b> Subject<'a, 'm, 'd, 'b> {
     {
         match self.types.take() {
             Some(types) => Ok(types),
-            None => {
-                let types = KnownTypes::of(alloc, information.units())?;
-                Ok(types)
-            }
+            None => KnownTypes::of(alloc, information.units()),
         }
     }
 

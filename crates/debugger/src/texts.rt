@@ -15,6 +15,7 @@ use debug_frames::{Information, Symbolizer, push_frame, push_unreadable};
 use dump_format::Frame;
 use pm_text::Text;
 use std::alloc::Global;
+use wasm_syntax::ModuleParts;
 
 /// Adds that there is no frame of a number.
 #[tactic(auto, unfolding(crate::specs::Texts::no_frame))]
@@ -25,39 +26,36 @@ pub fn push_no_frame(out: &mut Text, number: u64) -> Result<(), NoMemory>
     out.push_str("\n")
 }
 
-fn push_one(
-    out: &mut Text,
-    alloc: Global,
-    symbolizer: &mut Symbolizer<'_, '_>,
-    subject: &Subject<'_, '_, '_, '_>,
-    index: u64,
-    frame: &Frame,
-) -> Result<(), NoMemory>
-    requires { symbolizer.old ≡ subject.now.information }
-    ensures text { OnOk result (out.new
-        ≡ out.old ++ frame_text subject.now.information subject.now.module_ index frame.now) }
-    ensures same { symbolizer.new ≡ subject.now.information }
-{
-    push_frame(out, alloc, symbolizer, subject.parts(), index, frame)
-}
-
 fn push_frames(
     out: &mut Text,
     alloc: Global,
     information: &Information<'_>,
-    subject: &Subject<'_, '_, '_, '_>,
+    parts: &ModuleParts,
     frames: &[Frame],
 ) -> Result<(), NoMemory>
-    requires { information.now ≡ subject.now.information }
     ensures { OnOk result (out.new
-        ≡ out.old ++ numbered (frame_text subject.now.information subject.now.module_) 0
-        frames.now) }
+        ≡ out.old ++ numbered (frame_text information.now parts.now) 0 frames.now) }
 {
     let mut symbolizer = Symbolizer::new(alloc, information);
     for (i, frame) in frames.iter().enumerate() {
-        push_one(out, alloc, &mut symbolizer, subject, i as u64, frame)?;
+        push_frame(out, alloc, &mut symbolizer, parts, i as u64, frame)?;
     }
     Ok(())
+}
+
+fn push_one(
+    out: &mut Text,
+    alloc: Global,
+    information: &Information<'_>,
+    parts: &ModuleParts,
+    number: u64,
+    frame: &Frame,
+) -> Result<(), NoMemory>
+    ensures { OnOk result (out.new
+        ≡ out.old ++ frame_text information.now parts.now number frame.now) }
+{
+    let mut symbolizer = Symbolizer::new(alloc, information);
+    push_frame(out, alloc, &mut symbolizer, parts, number, frame)
 }
 
 /// Adds the lines on what could not be read.
@@ -83,8 +81,8 @@ pub fn push_backtrace(
     requires { information.now ≡ subject.now.information }
     ensures { OnOk result (out.new ≡ out.old ++ definitions.backtrace_text subject.now) }
 {
-    push_unread(out, information, subject)?;
-    push_frames(out, alloc, information, subject, subject.frames())
+    push_unreadable(out, information)?;
+    push_frames(out, alloc, information, subject.parts(), subject.frames())
 }
 
 /// Adds the lines of the frame of a number, or that there is none.
@@ -100,10 +98,7 @@ pub fn push_frame_at(
     ensures { OnOk result (out.new ≡ out.old ++ definitions.frame_text_at subject.now number) }
 {
     match subject.frames().get(number as usize) {
-        Some(frame) => {
-            let mut symbolizer = Symbolizer::new(alloc, information);
-            push_one(out, alloc, &mut symbolizer, subject, number, frame)
-        }
+        Some(frame) => push_one(out, alloc, information, subject.parts(), number, frame),
         None => push_no_frame(out, number),
     }
 }

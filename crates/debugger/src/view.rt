@@ -1,26 +1,33 @@
 //! Frames as their variables see them.
 
-ghost use Rattle.std.specs.Prelude.{◌≡◌, IfOk};
+ghost use Rattle.std.specs.Prelude.{◌≡◌, IfOk, option_map};
 ghost use Rattle.debugger.specs.Variables as definitions;
+ghost use Rattle.debugger.specs.calls.Parts as parts_there;
 
-use crate::Subject;
 use causes::NoMemory;
 use debug_frames::{Information, address_of};
 use dump_format::Frame;
 use dwarf_expr::FrameView;
 use dwarf_types::TypedUnits;
+use linear_memory::Memory;
 use std::alloc::Global;
 use var_eval::VariableFrame;
+use wasm_syntax::{ModuleParts, Seen};
 
-/// What expressions see of a frame.
-pub fn view_of<'s>(subject: &'s Subject<'_, '_, '_, '_>, frame: &'s Frame) -> FrameView<'s>
-    ensures { result ≡ definitions.view_of subject.now frame.now }
+/// What expressions see of a frame, beside the recorded globals and memory.
+pub fn view_of<'s>(
+    frame: &'s Frame,
+    globals: &'s [Seen],
+    memory: Option<&'s Memory>,
+) -> FrameView<'s>
+    ensures { result ≡ parts_there.view_in frame.now globals.now
+        (option_map (λ m. m.now.memory) memory.entry) }
 {
     FrameView {
         locals: frame.locals.as_slice(),
         operands: frame.operands.as_slice(),
-        globals: subject.globals(),
-        memory: subject.memory(),
+        globals,
+        memory,
     }
 }
 
@@ -49,19 +56,17 @@ impl Chosen {
 pub fn looks_of<'s, 'k, 'w, 'v, 'a>(
     alloc: Global,
     information: &'s Information<'a>,
-    subject: &Subject<'_, '_, '_, '_>,
+    parts: &ModuleParts,
     frame: &Frame,
     chosen: Chosen,
     view: &'w FrameView<'v>,
     types: TypedUnits<'s, 'k, 'a>,
 ) -> Result<VariableFrame<'s, 's, 'k, 'w, 'v, 'a>, NoMemory>
-    requires information { information.now ≡ subject.now.information }
-    requires types { types ≡ information.now.units }
-    requires view { view.now ≡ definitions.view_of subject.now frame.now }
-    ensures { IfOk result (λ looks. looks ≡ definitions.looks_of subject.now
-        (definitions.left_in chosen.index chosen.operands) frame.now) }
+    requires { types ≡ information.now.units }
+    ensures { IfOk result (λ looks. looks ≡ parts_there.looks_in information.now parts.now
+        frame.now view.now (definitions.left_in chosen.index chosen.operands)) }
 {
-    let address = address_of(subject.parts(), frame);
+    let address = address_of(parts, frame);
     let subprogram = information.subprogram_at(alloc, address)?;
     VariableFrame::new(
         alloc,

@@ -4,4 +4,4 @@ use Rattle.debugger.proofs.texts.push_frames.Given as goal
 use Rattle.commands.specs.Values.{numbered}
 
 abbrev pub invariant-loop-i : goal.invariant-loop-i
-invariant-loop-i l = (l.symbolizer ≡ l.subject.information) × (l.out ++ numbered (frame_text l.subject.information l.subject.module_) l.i (drop l.i l.frames) ≡ l.fn.out ++ numbered (frame_text l.subject.information l.subject.module_) 0 l.frames)
+invariant-loop-i l = (l.symbolizer ≡ l.information) × (l.out ++ numbered (frame_text l.information l.parts) l.i (drop l.i l.frames) ≡ l.fn.out ++ numbered (frame_text l.information l.parts) 0 l.frames)
