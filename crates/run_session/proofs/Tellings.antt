@@ -25,7 +25,7 @@ use Rattle.pm_outside.specs.Held.{HoldPart}
 use Rattle.commands.specs.calls.Given.{IfRefused, IfValue}
 use Rattle.commands.specs.declared.given.Given.{Given}
 use Rattle.commands.specs.declared.given.Given.TheVariants as givens
-use Rattle.run_session.specs.inner.Dumping.{place_in, handed_text, IsTrap, IsTold, own_dump, AddsTold, LeavesDump}
+use Rattle.run_session.specs.inner.Dumping.{place_in, handed_text, IsTrap, IsTold, torn_at, own_dump, AddsTold, LeavesDump}
 use Rattle.run_session.specs.declared.told.Told.{Told}
 use Rattle.run_session.specs.declared.told.Told.TheVariants as code
 use Rattle.run_session.specs.declared.turns.Lines.{Lines}
@@ -154,8 +154,12 @@ adds_trap base name calls old new before after kind d text traps held = record {
   wrote = λ t x. ap (λ b. (dump_name base old.traps, b) ∷ []) x.bytes ∙ ap (λ u. own_dump base name old.traps u) (sym x.is);
 }
 
+-- its calls are not torn
+pub torn_that : (told : Told) (kind : ℕ) (d : FormatDump) (written : Result (Given (Option ℕ)) WantOfMemory) → told ≡ code.Trap kind d → IfOk written (IfValue (λ torn. torn ≡ None)) → IfOk written (IfValue (λ torn. torn ≡ torn_at told))
+torn_that told kind d written is x = subst (λ y. IfOk written (IfValue (λ torn. torn ≡ torn_at y))) (sym is) x
+
 -- of another value that is this one
-pub adds_that : (base name : List ℕ) (calls : ℕ) (old new : Lines) (before after : Option Contents) (told : Told) (kind : ℕ) (d : FormatDump) (written : Result (Given (Unit {0})) WantOfMemory) → told ≡ code.Trap kind d
+pub adds_that : (base name : List ℕ) (calls : ℕ) (old new : Lines) (before after : Option Contents) (told : Told) (kind : ℕ) (d : FormatDump) (written : Result (Given (Option ℕ)) WantOfMemory) → told ≡ code.Trap kind d
     → IfOk written (IfValue (λ done. AddsTold base name (code.Trap kind d) calls old new before after)) → IfOk written (IfValue (λ done. AddsTold base name told calls old new before after))
 adds_that base name calls old new before after told kind d written is x = subst (λ y. IfOk written (IfValue (λ done. AddsTold base name y calls old new before after))) (sym is) x
 
@@ -188,10 +192,10 @@ trap_dumped name told kind d is t x =
     let y : IsTrap t name kind d = subst (λ u. IsTold t name u) is x in
     subst (λ u. HasDump u) (sym y.is) tt
 
-if_refused : (written : Given (Unit {0})) (P : Type 0) → P → IfRefused (λ o. P) written
+if_refused : (written : Given (Option ℕ)) (P : Type 0) → P → IfRefused (λ o. P) written
 if_refused (givens.Value done) P x = tt
 if_refused (givens.Refused o) P x = x
 
-pub dumped_that : (name : List ℕ) (told : Told) (kind : ℕ) (d : FormatDump) → told ≡ code.Trap kind d → (written : Result (Given (Unit {0})) WantOfMemory) → IfOk written (IfRefused (λ o. (t : Telling) → IsTold t name told → HasDump t))
+pub dumped_that : (name : List ℕ) (told : Told) (kind : ℕ) (d : FormatDump) → told ≡ code.Trap kind d → (written : Result (Given (Option ℕ)) WantOfMemory) → IfOk written (IfRefused (λ o. (t : Telling) → IsTold t name told → HasDump t))
 dumped_that name told kind d is (Ok written) = if_refused written ((t : Telling) → IsTold t name told → HasDump t) (trap_dumped name told kind d is)
 dumped_that name told kind d is (Err e) = tt

@@ -1,25 +1,30 @@
 -- How the list goes on behind an invocation of which something is told.
-use Rattle.std.proofs.Common.{◌≡◌, ℕ, ◌+◌, Bool, true, false, List, [], ◌∷◌, ◌++◌, length, refl, sym, ap, ◌∙◌, Option, Some, None, subst}
-use Rattle.std.specs.Prelude.{is_some}
+use Rattle.std.proofs.Common.{◌≡◌, ℕ, ◌+◌, Bool, true, false, List, [], ◌∷◌, ◌++◌, length, refl, sym, ap, ◌∙◌, Option, Some, None, Result, Ok, Err, subst}
+use Rattle.std.specs.Prelude.{IfOk, is_some}
 use Rattle.std.proofs.lemmas.List.{append-nil}
 use Rattle.pm_outside.specs.Contents.{Contents}
 use Rattle.wasm_syntax.specs.declared.parts.Import.{Import}
 use Rattle.wasm_syntax.specs.declared.host.CollectorCall.{CollectorCall}
 use Rattle.wasm_syntax.specs.Machine.{Config}
 use Rattle.wasm_syntax.specs.Module.{Program}
-use Rattle.wasm_syntax.specs.Run.{Outcome, not_started, finished, trapped, lacks_reply, misfits, running, got_stuck, Ran, goes_on}
+use Rattle.wasm_syntax.specs.Run.{Outcome as RunOutcome, not_started, finished, trapped, lacks_reply, misfits, running, got_stuck, Ran, goes_on}
 use Rattle.pm_outside.specs.Written.{OnTold}
 use Rattle.machine_hosted.specs.declared.answer.RunEnd.{RunEnd}
 use Rattle.machine_hosted.specs.declared.answer.RunEnd.TheVariants.{Finished, Trapped, NoReply, BadReply, DeviceFault, FuelSpent, NoMemory}
 use Rattle.machine_hosted.specs.calls.Invocations.{may_follow}
 use Rattle.wasm_machine.specs.calls.Instances.{State}
+use Rattle.causes.specs.declared.NoMemory.{NoMemory as WantOfMemory}
+use Rattle.commands.specs.calls.Given.{IfValue, IfRefused}
+use Rattle.commands.specs.declared.given.Given.{Given}
+use Rattle.commands.specs.declared.given.Given.TheVariants as given
+use Rattle.commands.specs.declared.outcome.Outcome.{Outcome}
 use Rattle.run_session.specs.Telling.{Telling, nothing, Tells, told, torn_in, HasDump}
 use Rattle.run_session.specs.RunText.{telling_text, dumps_from, with_trap}
 use Rattle.run_session.specs.Given.{given_to}
 use Rattle.pm_outside.specs.Held.{Writes, HoldPart}
 use Rattle.host_devices.specs.Given.{unfitting}
 use Rattle.run_session.specs.inner.Dumping.{IsTold, torn_at, own_dump, AddsTold, LeavesDump}
-use Rattle.run_session.specs.inner.Turns.{TellsIt, Dumps, Answered, Adds, turn_of, TurnsTo, UnlessRefused, Added, LeavesPart}
+use Rattle.run_session.specs.inner.Turns.{TellsIt, Dumps, Answered, Adds, turn_of, turn_by, TurnsTo, UnlessRefused, IfTurnRefused, Added, LeavesPart}
 use Rattle.run_session.specs.declared.told.Told.{Told}
 use Rattle.run_session.specs.declared.told.Told.TheVariants as code
 use Rattle.run_session.specs.declared.turns.Lines.{Lines}
@@ -50,7 +55,7 @@ same_text tell b r n counted = by_outcome r.outcome refl
     untold : told tell r ≡ nothing → telling_text (told tell r) n ≡ telling_text (told tell r) (length r.served)
     untold is = ap (λ t. telling_text t n) is ∙ sym (ap (λ t. telling_text t (length r.served)) is)
 
-    by_outcome : (o : Outcome) → r.outcome ≡ o → telling_text (told tell r) n ≡ telling_text (told tell r) (length r.served)
+    by_outcome : (o : RunOutcome) → r.outcome ≡ o → telling_text (told tell r) n ≡ telling_text (told tell r) (length r.served)
     by_outcome (misfits call reply) e = untold (ap (λ x. tell x r.collected r.last) e ∙ b.misfitting call reply r.collected r.last)
     by_outcome (finished v) e = fitting (ap unfitting e)
     by_outcome (trapped kind) e = fitting (ap unfitting e)
@@ -104,22 +109,50 @@ module _ (tell : Tells) (b : Behaves tell) (collect : Bool) (base name : List �
   told_so : (calls : ℕ) (p : Program) (used_up : Import → Bool) (r : Ran) → Answered p used_up collect a s calls handed r → IsTold (told tell r) name value
   told_so calls p used_up r known = subst (λ l. IsTold (tell r.outcome r.collected l) name value) (sym known.last_is) (tells_it p used_up r.outcome known.last r.collected known.came known.handed)
 
-  pub told_added : (calls : ℕ) (old new : Lines) (turn : Turn) → (a ≡ NoMemory → ⊥) → AddsTold base name value calls old new before after → turn ≡ turn_of (torn_at value) s.ready a
-      → UnlessRefused turn (Added tell collect base name s a calls handed old new before after turn)
-  told_added calls old new turn some adds is =
-      subst (λ t. UnlessRefused t (Added tell collect base name s a calls handed old new before after t)) (sym is)
-      (unless_turn (torn_at value) s.ready a (Added tell collect base name s a calls handed old new before after) record {
-        writes = adds.writes;
-        files = adds.files;
-        turns = λ p used_up r known.
-            let x = told_so calls p used_up r known in
-            by_turn tell base name a r old new adds.writes (torn_at value) s.ready (same_torn (told tell r) name value x) (follows_on a r s.ready some known.follows)
-            (added_so tell b base name r old new adds.writes calls known.counted (ap (λ (l : Option Config). is_some l) known.last_is) (adds.text (told tell r) x) (adds.traps (told tell r) x) (adds.wrote (told tell r) x));
-      })
+  told_added : (calls : ℕ) (old new : Lines) (torn : Option ℕ) → (a ≡ NoMemory → ⊥) → AddsTold base name value calls old new before after → torn ≡ torn_at value
+      → Added tell collect base name s a calls handed old new before after (turn_of torn s.ready a)
+  told_added calls old new torn some adds is = record {
+    writes = adds.writes;
+    files = adds.files;
+    turns = λ p used_up r known.
+        let x = told_so calls p used_up r known in
+        by_turn tell base name a r old new adds.writes torn s.ready (same_torn (told tell r) name value x ∙ sym is) (follows_on a r s.ready some known.follows)
+        (added_so tell b base name r old new adds.writes calls known.counted (ap (λ (l : Option Config). is_some l) known.last_is) (adds.text (told tell r) x) (adds.traps (told tell r) x) (adds.wrote (told tell r) x));
+  }
+
+  pub all_added : (calls : ℕ) (old new : Lines) (result : Result (Given (Option ℕ)) WantOfMemory) → (a ≡ NoMemory → ⊥) → IfOk result (IfValue (λ torn. AddsTold base name value calls old new before after)) → IfOk result (IfValue (λ torn. torn ≡ torn_at value))
+      → IfOk result (IfValue (λ torn. Added tell collect base name s a calls handed old new before after (turn_of torn s.ready a)))
+  all_added calls old new (Ok (given.Value torn)) some adds is = told_added calls old new torn some adds is
+  all_added calls old new (Ok (given.Refused o)) some adds is = tt
+  all_added calls old new (Err e) some adds is = tt
 
   pub told_part : (traps : ℕ) → LeavesDump base name value traps before after → LeavesPart tell collect base name s a handed traps before after
   told_part traps leaves = λ p used_up r c came same last.
       part_so tell base name traps r before after (leaves (told tell r) (subst (λ l. IsTold (tell r.outcome r.collected l) name value) (sym last) (tells_it p used_up r.outcome c r.collected came same)))
 
-  pub told_dumped : ((t : Telling) → IsTold t name value → HasDump t) → Dumps tell collect a s handed
+  told_dumped : ((t : Telling) → IsTold t name value → HasDump t) → Dumps tell collect a s handed
   told_dumped has = λ p used_up o c others came same. has (tell o others (Some c)) (tells_it p used_up o c others came same)
+
+  pub all_dumped : (result : Result (Given (Option ℕ)) WantOfMemory) → IfOk result (IfRefused (λ _. (t : Telling) → IsTold t name value → HasDump t)) → IfOk result (IfRefused (λ _. Dumps tell collect a s handed))
+  all_dumped (Ok (given.Value torn)) has = tt
+  all_dumped (Ok (given.Refused o)) has = told_dumped has
+  all_dumped (Err e) has = tt
+
+-- ---- the turn behind them
+
+pub whatever_is_given : (result : Result (Given (Option ℕ)) WantOfMemory) (P : Type 0) → P → IfOk result (λ g. P)
+whatever_is_given (Ok g) P x = x
+whatever_is_given (Err e) P x = tt
+
+pub turn_added : (g : Given (Option ℕ)) (ready : Bool) (a : RunEnd) (turn : Turn) (P : Turn → Type 0) → turn ≡ turn_by g ready a → IfValue (λ torn. P (turn_of torn ready a)) g → UnlessRefused turn (P turn)
+turn_added (given.Value torn) ready a turn P is x = subst (λ t. UnlessRefused t (P t)) (sym is) (unless_turn torn ready a P x)
+turn_added (given.Refused o) ready a turn P is x = subst (λ t. UnlessRefused t (P t)) (sym is) tt
+
+not_refused : (t : Option ℕ) (ready : Bool) (a : RunEnd) (P : Outcome → Type 0) → IfTurnRefused P (turn_of t ready a)
+not_refused None true a P = tt
+not_refused None false a P = tt
+not_refused (Some at) ready a P = tt
+
+pub turn_refused : (g : Given (Option ℕ)) (ready : Bool) (a : RunEnd) (turn : Turn) (P : Outcome → Type 0) → turn ≡ turn_by g ready a → IfRefused P g → IfTurnRefused P turn
+turn_refused (given.Value torn) ready a turn P is x = subst (λ t. IfTurnRefused P t) (sym is) (not_refused torn ready a P)
+turn_refused (given.Refused o) ready a turn P is x = subst (λ t. IfTurnRefused P t) (sym is) x

@@ -1,6 +1,7 @@
 //! The end of a list of invocations.
 
-ghost use Rattle.std.specs.Prelude.{◌≡◌, ◌++◌, IfOk};
+ghost use Rattle.std.specs.Prelude.{◌≡◌, ◌++◌, IfOk, codes};
+ghost use Rattle.std.specs.Fmt.{decimal};
 ghost use Rattle.commands.specs.Texts.{ended};
 ghost use Rattle.run_session.specs.RunText.{torn_text};
 ghost use Rattle.run_session.specs.Ending.{host_stopped, trapped_or_done};
@@ -14,30 +15,35 @@ use machine_hosted::RunEnd;
 use pm_text::Text;
 use std::alloc::Global;
 
-/// The line that names why a host function did not reply.
+/// The line where no reply was left for a call.
 #[tactic(auto, unfolding(crate::specs::Ending::host_stopped))]
-fn stopped(alloc: Global, cause: &Text) -> Result<Text, NoMemory>
-    ensures { IfOk result (λ t. t ≡ host_stopped cause.now) }
+fn no_reply(alloc: Global, call: u64) -> Result<Text, NoMemory>
+    ensures { IfOk result (λ t. t ≡ host_stopped (codes "no reply for call " ++ decimal call)) }
 {
-    let mut text = Text::from_str(alloc, "host stopped: ")?;
-    text.push_str(cause.as_str())?;
+    let mut text = numbered(alloc, "host stopped: no reply for call ", call)?;
     text.push_str("\n")?;
     Ok(text)
 }
 
-fn device_cause(alloc: Global, device: &Text) -> Result<Text, NoMemory>
-    ensures { IfOk result (λ t. t ≡ device_cause device.now) }
+/// The line where the reply of a number does not fit.
+#[tactic(auto, unfolding(crate::specs::Ending::host_stopped))]
+fn misfit(alloc: Global, number: u64) -> Result<Text, NoMemory>
+    ensures { IfOk result (λ t. t ≡ host_stopped (misfit_cause number)) }
 {
-    let mut text = Text::from_str(alloc, "device ")?;
-    text.push_quoted(device.as_bytes())?;
+    let mut text = numbered(alloc, "host stopped: reply ", number)?;
+    text.push_str(" does not fit")?;
+    text.push_str("\n")?;
     Ok(text)
 }
 
-fn misfit_cause(alloc: Global, number: u64) -> Result<Text, NoMemory>
-    ensures { IfOk result (λ t. t ≡ misfit_cause number) }
+/// The line where a device failed.
+#[tactic(auto, unfolding(crate::specs::Ending::host_stopped))]
+fn device_failed(alloc: Global, device: &Text) -> Result<Text, NoMemory>
+    ensures { IfOk result (λ t. t ≡ host_stopped (device_cause device.now)) }
 {
-    let mut text = numbered(alloc, "reply ", number)?;
-    text.push_str(" does not fit")?;
+    let mut text = Text::from_str(alloc, "host stopped: device ")?;
+    text.push_quoted(device.as_bytes())?;
+    text.push_str("\n")?;
     Ok(text)
 }
 
@@ -53,18 +59,9 @@ pub fn end_line(alloc: Global, answer: &RunEnd, given: u64, due: usize) -> Resul
     match answer {
         RunEnd::Finished { .. } => Ok(Text::new(alloc)),
         RunEnd::Trapped { .. } => not_invoked(alloc, due),
-        RunEnd::NoReply => {
-            let cause = numbered(alloc, "no reply for call ", given)?;
-            stopped(alloc, &cause)
-        }
-        RunEnd::BadReply { .. } => {
-            let cause = misfit_cause(alloc, given.saturating_sub(1))?;
-            stopped(alloc, &cause)
-        }
-        RunEnd::DeviceFault { name } => {
-            let cause = device_cause(alloc, name)?;
-            stopped(alloc, &cause)
-        }
+        RunEnd::NoReply => no_reply(alloc, given),
+        RunEnd::BadReply { .. } => misfit(alloc, given.saturating_sub(1)),
+        RunEnd::DeviceFault { name } => device_failed(alloc, name),
         RunEnd::FuelSpent => Text::from_str(alloc, "fuel spent\n"),
         RunEnd::NoMemory => Ok(Text::new(alloc)),
     }

@@ -6,7 +6,7 @@ ghost use Rattle.run_session.specs.RunText.{not_invoked_text};
 ghost use Rattle.run_session.specs.inner.Dumping.{place_in, handed_text};
 
 use causes::NoMemory;
-use commands::{push_kind, push_number, push_result};
+use commands::{numbered, push_kind, push_number, push_result};
 use dump_format::Dump;
 use pm_text::Text;
 use std::alloc::Global;
@@ -94,10 +94,10 @@ pub(crate) fn push_finished(
 pub(crate) fn not_invoked(alloc: Global, count: usize) -> Result<Text, NoMemory>
     ensures { IfOk result (λ t. t ≡ not_invoked_text count) }
 {
-    let mut text = Text::new(alloc);
-    if count > 0 {
-        push_number(&mut text, "not invoked ", count as u64)?;
-        text.push_str("\n")?;
+    if count == 0 {
+        return Ok(Text::new(alloc));
     }
+    let mut text = numbered(alloc, "not invoked ", count as u64)?;
+    text.push_str("\n")?;
     Ok(text)
 }

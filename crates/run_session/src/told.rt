@@ -11,7 +11,7 @@ ghost use Rattle.dump_format.specs.calls.Contained.{IsContained};
 ghost use Rattle.run_session.specs.Delivery.{Delivery, IsDelivery};
 ghost use Rattle.run_session.specs.Showing.{showing};
 ghost use Rattle.run_session.specs.Telling.{plain_telling, shown_telling, tells};
-ghost use Rattle.run_session.specs.inner.Dumping.{IsTold, IfDump, torn_at};
+ghost use Rattle.run_session.specs.inner.Dumping.{IsTold, IfDump};
 ghost use Rattle.run_session.specs.inner.Turns.{CameTo, TellsIt};
 
 use crate::{Shown, handed_over, shown_by};
@@ -38,18 +38,6 @@ pub(crate) enum Told<'a> {
     BareTrap { kind: u32 },
     /// Its collector calls are torn at this index.
     Torn { at: usize },
-}
-
-impl Told<'_> {
-    /// The index at which its collector calls are torn, where they are.
-    pub(crate) fn torn(&self) -> Option<usize>
-        ensures { result ≡ torn_at self.now }
-    {
-        match self {
-            Told::Torn { at } => Some(*at),
-            _ => None,
-        }
-    }
 }
 
 /// What is told of an invocation with this answer whose collector calls are not looked at.

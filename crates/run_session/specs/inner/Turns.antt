@@ -11,6 +11,8 @@ use Rattle.machine_hosted.specs.declared.answer.RunEnd.{RunEnd}
 use Rattle.machine_hosted.specs.calls.Answers.{KeepsThen}
 use Rattle.machine_hosted.specs.calls.Invocations.{HasOutcome, may_follow}
 use Rattle.wasm_machine.specs.calls.Instances.{State, IsOf}
+use Rattle.commands.specs.declared.given.Given.{Given}
+use Rattle.commands.specs.declared.given.Given.TheVariants as given
 use Rattle.commands.specs.declared.outcome.Outcome.{Outcome}
 use Rattle.run_session.specs.Telling.{Tells, told, torn_in, HasDump}
 use Rattle.run_session.specs.RunText.{invocation_text, dumps_from, traps_in}
@@ -68,6 +70,11 @@ turn_on false answer = Ends answer
 abbrev pub turn_of : (torn : Option ℕ) → (ready : Bool) → RunEnd → Turn
 turn_of None ready answer = turn_on ready answer
 turn_of (Some at) ready answer = Torn at
+
+-- behind lines that were added, or a file that failed
+abbrev pub turn_by : Given (Option ℕ) → (ready : Bool) → RunEnd → Turn
+turn_by (given.Value torn) ready answer = turn_of torn ready answer
+turn_by (given.Refused o) ready answer = Refused o
 
 abbrev pub TurnsTo : Tells → (base name : List ℕ) → RunEnd → Ran → (old new : Lines) → Writes → Turn → Type 0
 TurnsTo tell base name answer r old new writes GoesOn = (goes_on r.outcome r.entered ≡ true) × (torn_in (told tell r) ≡ None) × Adds tell base name r old new writes

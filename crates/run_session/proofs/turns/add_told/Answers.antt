@@ -1,5 +1,5 @@
 use Rattle.std.proofs.Common.{refl}
-use Rattle.run_session.proofs.Tellings.{adds_nothing, adds_torn, adds_finish, adds_bare, adds_that, leaves_none, leaves_that, dumped_that}
+use Rattle.run_session.proofs.Tellings.{adds_nothing, adds_torn, adds_finish, adds_bare, adds_that, leaves_none, leaves_that, dumped_that, torn_that}
 use Rattle.run_session.proofs.turns.add_told.Goals as goal
 
 pub returns-in-Nothing-clause-added : goal.returns-in-Nothing-clause-added
@@ -40,3 +40,6 @@ returns-in-Trap-clause-front g c = leaves_that c.args.words.now.dump c.args.word
 
 pub returns-in-Trap-clause-dumped : goal.returns-in-Trap-clause-dumped
 returns-in-Trap-clause-dumped g c = dumped_that c.args.words.now.name c.args.told.now _ _ c.in-Trap.is c.add_trap.result
+
+pub returns-in-Trap-clause-torn : goal.returns-in-Trap-clause-torn
+returns-in-Trap-clause-torn g c = torn_that c.args.told.now _ _ c.add_trap.result c.in-Trap.is c.add_trap.ensures.torn

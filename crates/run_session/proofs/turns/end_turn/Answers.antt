@@ -1,33 +1,29 @@
-use Rattle.std.proofs.Common.{ap, ◌∙◌}
+use Rattle.std.proofs.Common.{◌≡◌, true, ap, subst, ◌∙◌}
+use Rattle.causes.specs.Counts.{Rose}
+use Rattle.commands.specs.Texts.{file_fault}
 use Rattle.run_session.specs.Telling.{tells}
-use Rattle.run_session.specs.inner.Turns.{turn_of}
-use Rattle.commands.proofs.Givens.{where_value, of_refusal}
-use Rattle.run_session.proofs.Tellings.{behaves}
-use Rattle.run_session.proofs.Turning.{told_added, told_part, told_dumped, unwritten_part}
+use Rattle.run_session.specs.RunText.{dump_name}
+use Rattle.run_session.specs.inner.Turns.{turn_by, IfGoesOn, Added, Dumps}
+use Rattle.run_session.proofs.Turning.{turn_added, turn_refused}
 use Rattle.run_session.proofs.turns.end_turn.Goals as goal
 
-pub returns-in_err-told-clause-part : goal.returns-in_err-told-clause-part
-returns-in_err-told-clause-part g c = λ deliver is_delivery.
-    unwritten_part (tells c.args.words.now.collect deliver) c.args.words.now.collect c.args.words.now.dump c.args.words.now.name c.args.instance.now c.args.answer c.args.outside.now.collected.now c.args.lines.now.traps (g.F.Files.told c.args.files.now)
+pub returns-clause-added : goal.returns-clause-added
+returns-clause-added g c = λ deliver is_delivery.
+    turn_added c.in_ok-added.added c.args.instance.now.ready c.args.answer c.turn_after.result
+    (Added (tells c.args.words.now.collect deliver) c.args.words.now.collect c.args.words.now.dump c.args.words.now.name c.args.instance.now c.args.answer c.args.outside.now.calls c.args.outside.now.collected.now c.args.lines.now c.add_invocation.new.lines (g.F.Files.told c.args.files.now) (g.F.Files.told c.add_invocation.new.files))
+    (c.turn_after.ensures.turn ∙ ap (λ r. turn_by c.in_ok-added.added r c.args.answer) c.ready.ensures) (c.in_ok-added.ensures.added deliver is_delivery)
 
-pub returns-in_err-written-clause-part : goal.returns-in_err-written-clause-part
-returns-in_err-written-clause-part g c = λ deliver is_delivery.
-    told_part (tells c.args.words.now.collect deliver) (behaves c.args.words.now.collect deliver) c.args.words.now.collect c.args.words.now.dump c.args.words.now.name c.args.instance.now c.args.answer c.args.outside.now.collected.now c.in_ok-told.told (c.in_ok-told.ensures.told deliver is_delivery) (g.F.Files.told c.args.files.now) (g.F.Files.told c.add_told.new.files) c.args.lines.now.traps c.add_told.ensures.front
+pub returns-clause-dumped : goal.returns-clause-dumped
+returns-clause-dumped g c = λ deliver is_delivery.
+    turn_refused c.in_ok-added.added c.args.instance.now.ready c.args.answer c.turn_after.result
+    (λ _. Dumps (tells c.args.words.now.collect deliver) c.args.words.now.collect c.args.answer c.args.instance.now c.args.outside.now.collected.now)
+    (c.turn_after.ensures.turn ∙ ap (λ r. turn_by c.in_ok-added.added r c.args.answer) c.ready.ensures) (c.in_ok-added.ensures.dumped deliver is_delivery)
 
-pub returns-in-Value-clause-part : goal.returns-in-Value-clause-part
-returns-in-Value-clause-part g c = λ deliver is_delivery.
-    told_part (tells c.args.words.now.collect deliver) (behaves c.args.words.now.collect deliver) c.args.words.now.collect c.args.words.now.dump c.args.words.now.name c.args.instance.now c.args.answer c.args.outside.now.collected.now c.in_ok-told.told (c.in_ok-told.ensures.told deliver is_delivery) (g.F.Files.told c.args.files.now) (g.F.Files.told c.add_told.new.files) c.args.lines.now.traps c.add_told.ensures.front
+pub returns-clause-refused : goal.returns-clause-refused
+returns-clause-refused g c =
+    turn_refused c.in_ok-added.added c.args.instance.now.ready c.args.answer c.turn_after.result
+    (λ o. (o ≡ file_fault (dump_name c.args.words.now.dump c.args.lines.now.traps)) × Rose (g.F.Files.faults c.args.files.now) (g.F.Files.faults c.add_invocation.new.files))
+    (c.turn_after.ensures.turn ∙ ap (λ r. turn_by c.in_ok-added.added r c.args.answer) c.ready.ensures) c.in_ok-added.ensures.refused
 
-pub returns-in-Refused-clause-part : goal.returns-in-Refused-clause-part
-returns-in-Refused-clause-part g c = λ deliver is_delivery.
-    told_part (tells c.args.words.now.collect deliver) (behaves c.args.words.now.collect deliver) c.args.words.now.collect c.args.words.now.dump c.args.words.now.name c.args.instance.now c.args.answer c.args.outside.now.collected.now c.in_ok-told.told (c.in_ok-told.ensures.told deliver is_delivery) (g.F.Files.told c.args.files.now) (g.F.Files.told c.add_told.new.files) c.args.lines.now.traps c.add_told.ensures.front
-
-pub returns-in-Value-clause-added : goal.returns-in-Value-clause-added
-returns-in-Value-clause-added g c = λ deliver is_delivery.
-    told_added (tells c.args.words.now.collect deliver) (behaves c.args.words.now.collect deliver) c.args.words.now.collect c.args.words.now.dump c.args.words.now.name c.args.instance.now c.args.answer c.args.outside.now.collected.now c.in_ok-told.told (c.in_ok-told.ensures.told deliver is_delivery) (g.F.Files.told c.args.files.now) (g.F.Files.told c.add_told.new.files)
-    c.args.outside.now.calls c.args.lines.now c.add_told.new.lines c.turn_after.result c.in_ok-told.ensures.memory (where_value c.in_ok-written.written _ _ c.in-Value.is c.in_ok-written.ensures.added)
-    (c.turn_after.ensures.turn ∙ ap (λ t. turn_of t c.args.instance.now.ready c.args.answer) c.torn.ensures)
-
-pub returns-in-Refused-clause-dumped : goal.returns-in-Refused-clause-dumped
-returns-in-Refused-clause-dumped g c = λ deliver is_delivery.
-    told_dumped (tells c.args.words.now.collect deliver) (behaves c.args.words.now.collect deliver) c.args.words.now.collect c.args.words.now.dump c.args.words.now.name c.args.instance.now c.args.answer c.args.outside.now.collected.now c.in_ok-told.told (c.in_ok-told.ensures.told deliver is_delivery) (g.F.Files.told c.args.files.now) (g.F.Files.told c.add_told.new.files) (of_refusal c.in_ok-written.written c.in-Refused.outcome _ c.in-Refused.is c.in_ok-written.ensures.dumped)
+pub returns-clause-ready : goal.returns-clause-ready
+returns-clause-ready g c = subst (λ r. IfGoesOn (r ≡ true) c.turn_after.result) c.ready.ensures c.turn_after.ensures.ready
