@@ -1,6 +1,7 @@
 //! The answer on the contents of two files.
 
 ghost use Rattle.std.specs.Prelude.{◌≡◌, ◌≤◌, ◌<◌, ◌^◌, IfOk, Some};
+ghost use Rattle.wasm_syntax.specs.Module.{IsModule};
 ghost use Rattle.host_replies.specs.Replies.{file_replies};
 ghost use Rattle.debugger.specs.Subject.{Spells};
 ghost use Rattle.run_command.specs.Starting.{cause_text, not_started_with};
@@ -52,6 +53,28 @@ fn not_started(alloc: Global, entry: &Text, fault: StartRefusal) -> Result<Outco
     })
 }
 
+/// What the commands print, as an answer.
+fn done(
+    alloc: Global,
+    replayer: &mut Replayer<'_>,
+    viewer: &mut Viewer<'_>,
+    commands: &str,
+) -> Result<Outcome, NoMemory>
+    requires module_ { viewer.old.module_ ≡ replayer.old.recording.module_ }
+    requires depth { replayer.old.recording.depth < 2 ^ 32 }
+    requires step { replayer.old.step ≡ 0 }
+    requires chosen { viewer.old.chosen ≡ 0 }
+    requires whole { IsModule replayer.old.recording.module_ }
+    ensures value { IfOk result (IsTold replayer.old.recording viewer.old.bytes commands.now) }
+    ensures ended { IfOk result (Ended (λ _. ⊥)) }
+{
+    let text = replayed(alloc, replayer, viewer, commands)?;
+    Ok(Outcome {
+        status: Status::Done,
+        text,
+    })
+}
+
 /// The answer where the run starts.
 fn told(
     alloc: Global,
@@ -67,11 +90,7 @@ fn told(
 {
     let _parts = source.module().parts();
     let mut viewer = Viewer::new(source, bytes);
-    let text = replayed(alloc, &mut replayer, &mut viewer, commands)?;
-    Ok(Outcome {
-        status: Status::Done,
-        text,
-    })
+    done(alloc, &mut replayer, &mut viewer, commands)
 }
 
 /// How many steps stand between two checkpoints at first, which are some.

@@ -3,7 +3,7 @@
 ghost use Rattle.std.specs.Prelude.{◌≡◌, ◌<◌, ◌^◌, IfOk, OnOk, codes};
 ghost use Rattle.debugger.specs.Subject.{Spells};
 ghost use Rattle.dump_match.specs.States.{KeptState};
-ghost use Rattle.replay.specs.Moves.{OfEach};
+ghost use Rattle.replay.specs.Moves.{OfEach, Replay};
 ghost use Rattle.replay_command.specs.ReplayText.{ShowsStep, commands_in};
 ghost use Rattle.replay_command.specs.inner.Steps.{BeginsWithLook, IsShorter, LookedThrough, Took, choosing, left_in};
 
@@ -121,11 +121,43 @@ impl<'a> Viewer<'a> {
         }
     }
 
+    fn source(&self) -> &'a Validated
+        ensures { result.now ≡ self.now.module_ }
+    {
+        self.source
+    }
+
     /// The innermost frame is chosen.
     pub(crate) fn choose_innermost(&mut self)
         ensures { self.new ≡ choosing self.old 0 }
     {
         self.chosen = 0;
+    }
+
+    /// Adds what the commands before the first move print on the state of this dump, and hands out the
+    /// text that is left from there on.
+    fn look_at<'c>(
+        &mut self,
+        out: &mut Text,
+        alloc: Global,
+        dump: &Dump<'_>,
+        commands: &'c str,
+    ) -> Result<Option<&'c str>, NoMemory>
+        requires kept { KeptState self.old.module_ dump.now }
+        requires look { BeginsWithLook commands.now }
+        ensures took { (r : Replay) → self.old.module_ ≡ r.recording.module_
+            → OfEach r.recording (λ p. ShowsStep p r.recording r.step dump.now)
+            → IfOk result (λ rest. Took r self.old out.old (commands_in commands.now)
+            (left_in rest) r self.new out.new) }
+        ensures shorter { IfOk result (λ rest. IsShorter rest commands.now) }
+    {
+        let matched = matched(alloc, self.source, dump);
+        let known = self.known.take();
+        let mut session = Session::on_state(alloc, self.bytes, known, matched, self.chosen)?;
+        let rest = push_looks(out, alloc, &mut session, commands)?;
+        self.chosen = session.chosen();
+        self.known = session.into_information();
+        Ok(rest)
     }
 
     /// Adds what the commands before the first move print on the state that is shown, and hands out
@@ -145,13 +177,7 @@ impl<'a> Viewer<'a> {
             (left_in rest) replayer.now self.new out.new) }
         ensures shorter { IfOk result (λ rest. IsShorter rest commands.now) }
     {
-        let dump = shown_dump(alloc, self.source, replayer)?;
-        let matched = matched(alloc, self.source, &dump);
-        let known = self.known.take();
-        let mut session = Session::on_state(alloc, self.bytes, known, matched, self.chosen)?;
-        let rest = push_looks(out, alloc, &mut session, commands)?;
-        self.chosen = session.chosen();
-        self.known = session.into_information();
-        Ok(rest)
+        let dump = shown_dump(alloc, self.source(), replayer)?;
+        self.look_at(out, alloc, &dump, commands)
     }
 }

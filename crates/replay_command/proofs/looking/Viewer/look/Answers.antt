@@ -1,26 +1,10 @@
-use Rattle.std.proofs.Common.{◌≡◌, ℕ, List, ap, ◌∙◌}
+use Rattle.std.proofs.Common.{subst}
 use Rattle.wasm_syntax.specs.declared.module.ModuleParts.{ModuleParts as Module}
-use Rattle.debug_frames.specs.Information.{SourceInformation, information}
-use Rattle.debugger.specs.Subject.{Subject, subject_on}
-use Rattle.debugger.specs.calls.Sitting.{sitting}
-use Rattle.replay_command.specs.ReplayText.{commands_in}
-use Rattle.replay_command.specs.inner.Steps.{Seat, choosing, left_in}
-use Rattle.replay_command.proofs.Turns.{looks_at, took_looks}
+use Rattle.dump_match.specs.States.{KeptState}
 use Rattle.replay_command.proofs.looking.Viewer.look.Goals as goal
 
+pub look_at-requires-clause-kept : goal.look_at-requires-clause-kept
+look_at-requires-clause-kept c = subst (λ (m : Module). KeptState m c.in_ok-dump.dump) c.source.ensures c.in_ok-dump.ensures.kept
+
 pub returns-clause-took : goal.returns-clause-took
-returns-clause-took c =
-    let m = c.matched-matched.result in
-    let known : SourceInformation = information c.self.inside.bytes.now m.module_.customs in
-    let at : Subject = subject_on known m.module_ m.dump in
-    let after : Seat = record { module_ = c.self.inside.source.now; bytes = c.self.inside.bytes.now; chosen = c.chosen-self-inside.result } in
-    let first = c.self.view_is in
-    let looked_at : c.self.inside.source.now ≡ c.args.self.now.module_ = ap (λ (v : Seat). v.module_) first in
-    let read_from : c.self.inside.bytes.now ≡ c.args.self.now.bytes = ap (λ (v : Seat). v.bytes) first in
-    let of : m.module_ ≡ c.args.self.now.module_ = c.matched-matched.ensures.module_ ∙ looked_at in
-    let known_is : known ≡ information c.args.self.now.bytes c.args.self.now.module_.customs =
-    ap (λ (b : List ℕ). information b m.module_.customs) read_from ∙ ap (λ (k : Module). information c.args.self.now.bytes k.customs) of in
-    took_looks c.args.replayer.now c.args.self.now after c.in_ok-dump.dump c.in_ok-session.session at c.args.out.now c.push_looks.new.out (commands_in c.args.commands.now) (left_in c.in_ok-rest.rest) c.push_looks.new.session.chosen
-    (ap (λ v. choosing v c.chosen-self-inside.result) first) c.chosen-self-inside.ensures c.in_ok-dump.ensures.shows (c.in_ok-session.ensures ∙ ap (λ i. sitting at i) (ap (λ (v : Seat). v.chosen) first))
-    (looks_at c.args.replayer.now.recording c.args.self.now.bytes c.args.self.now.module_ c.in_ok-dump.dump known m c.requires.module_ known_is of c.matched-matched.ensures.dump)
-    c.in_ok-rest.ensures.looked
+returns-clause-took c = c.look_at.ensures.took c.args.replayer.now c.requires.module_ c.in_ok-dump.ensures.shows
