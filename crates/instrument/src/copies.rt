@@ -71,8 +71,8 @@ impl Duplicate for DataSeg {
     fn duplicate(&self, alloc: Global) -> Result<Self, NoMemory> {
         Ok(DataSeg {
             memory: self.memory,
-            offset: self.offset.duplicate(alloc)?,
             bytes: Items::from_slice(alloc, self.bytes.as_slice())?,
+            offset: self.offset.duplicate(alloc)?,
         })
     }
 }

@@ -1,12 +1,10 @@
 //! Types, imports and globals.
 
-ghost use Rattle.std.specs.Prelude.{◌≡◌, ◌+◌, ◌<◌, ◌^◌, ◌++◌, [], ◌∷◌, codes, length, IfOk};
-ghost use Rattle.wasm_syntax.specs.declared.value.ValType.TheVariants.{I32, I64};
-ghost use Rattle.rewrite_bodies.specs.calls.Guards.{helper_type};
-ghost use Rattle.rewrite_bodies.specs.Numbering.{frame_type, value_type};
+ghost use Rattle.std.specs.Prelude.{◌≡◌, ◌+◌, ◌*◌, ◌<◌, ◌^◌, ◌++◌, [], ◌∷◌, true, length, IfOk, OnOk};
+ghost use Rattle.rewrite_bodies.specs.calls.Guards.{less_word};
 ghost use Rattle.rewrite_modules.specs.Collector.{collector_import};
 ghost use Rattle.rewrite_modules.specs.calls.Instrument.{memory_min};
-ghost use Rattle.instrument.specs.inner.Parts.{flag, measure, more_imports, more_types};
+ghost use Rattle.instrument.specs.inner.Parts.{flag, measure, measured, more_imports, more_types};
 ghost use Rattle.instrument.specs.inner.Parts.{number_code, value_code};
 
 use crate::copies::duplicates;
@@ -14,44 +12,64 @@ use causes::NoMemory;
 use pm_text::{Items, Text};
 use std::alloc::Global;
 use wasm_syntax::{
-    Basic, Body, FuncType, Global as GlobalPart, Globals, Import, Imports, Instr, ModuleParts, Op,
-    ValType, Value,
+    Basic, Body, FuncType, FuncTypes, Global as GlobalPart, Globals, Import, Imports, Instr,
+    ModuleParts, Op, ValType, Value,
 };
 
-fn function_type(
+/// Adds a type of functions.
+fn push_type(
     alloc: Global,
+    types: &mut FuncTypes,
     params: &[ValType],
     results: &[ValType],
-) -> Result<FuncType, NoMemory>
-    ensures { IfOk result (λ ftype. ftype ≡ record { params = params.now; results = results.now }) }
+) -> Result<(), NoMemory>
+    ensures { OnOk result (types.new
+        ≡ types.old ++ record { params = params.now; results = results.now } ∷ []) }
 {
-    Ok(FuncType {
+    types.push(FuncType {
         params: Items::from_slice(alloc, params)?,
         results: Items::from_slice(alloc, results)?,
     })
 }
 
+/// Adds the types of the collector's imports and of helpers.
+fn push_types(alloc: Global, types: &mut FuncTypes) -> Result<(), NoMemory>
+    ensures { OnOk result (types.new ≡ types.old ++ more_types) }
+{
+    push_type(alloc, types, &[ValType::I32], &[])?;
+    push_type(alloc, types, &[ValType::I64], &[])?;
+    push_type(alloc, types, &[ValType::I32; 4], &[])?;
+    push_type(alloc, types, &[ValType::I32], &[ValType::I32])
+}
+
 /// The types of the module, and behind them those of the collector's imports and of helpers.
-pub(crate) fn new_types(alloc: Global, parts: &ModuleParts) -> Result<Items<FuncType>, NoMemory>
+pub(crate) fn new_types(alloc: Global, parts: &ModuleParts) -> Result<FuncTypes, NoMemory>
     ensures { IfOk result (λ types. types ≡ parts.now.types ++ more_types) }
 {
     let mut types = duplicates(alloc, &parts.types)?;
-    types.push(function_type(alloc, &[ValType::I32], &[])?)?;
-    types.push(function_type(alloc, &[ValType::I64], &[])?)?;
-    types.push(function_type(alloc, &[ValType::I32; 4], &[])?)?;
-    types.push(function_type(alloc, &[ValType::I32], &[ValType::I32])?)?;
+    push_types(alloc, &mut types)?;
     Ok(types)
 }
 
-/// An import of the collector's module.
-fn collector_import(alloc: Global, name: &str, ftype: u32) -> Result<Import, NoMemory>
-    ensures { IfOk result (λ import. import ≡ collector_import name.now ftype) }
+/// Adds an import of the collector's module.
+fn push_import(alloc: Global, imports: &mut Imports, name: &str, ftype: u32) -> Result<(), NoMemory>
+    ensures { OnOk result (imports.new ≡ imports.old ++ collector_import name.now ftype ∷ []) }
 {
-    Ok(Import {
+    imports.push(Import {
         module: Text::from_str(alloc, "coredump")?,
         name: Text::from_str(alloc, name)?,
         ftype,
     })
+}
+
+/// Adds the imports of the collector, behind so many types.
+fn push_imports(alloc: Global, imports: &mut Imports, types: u32) -> Result<(), NoMemory>
+    requires { types + 3 < 2 ^ 32 }
+    ensures { OnOk result (imports.new ≡ imports.old ++ more_imports types) }
+{
+    push_import(alloc, imports, "value_i32", types)?;
+    push_import(alloc, imports, "value_i64", types + 1)?;
+    push_import(alloc, imports, "frame", types + 2)
 }
 
 /// The imports of the module, and behind them those of the collector.
@@ -62,9 +80,7 @@ pub(crate) fn new_imports(alloc: Global, parts: &ModuleParts) -> Result<Imports,
 {
     let types = parts.types.len() as u32;
     let mut imports = duplicates(alloc, &parts.imports)?;
-    imports.push(collector_import(alloc, "value_i32", types)?)?;
-    imports.push(collector_import(alloc, "value_i64", types + 1)?)?;
-    imports.push(collector_import(alloc, "frame", types + 2)?)?;
+    push_imports(alloc, &mut imports, types)?;
     Ok(imports)
 }
 
@@ -96,17 +112,6 @@ pub(crate) fn number_code(alloc: Global, number: u32) -> Result<Body, NoMemory>
     value_code(alloc, Value::I32(number))
 }
 
-/// The flag, which is down at first.
-fn new_flag(alloc: Global) -> Result<GlobalPart, NoMemory>
-    ensures { IfOk result (λ global. global ≡ flag) }
-{
-    Ok(GlobalPart {
-        vtype: ValType::I32,
-        mutable: true,
-        init: number_code(alloc, 0)?,
-    })
-}
-
 /// How many pages the memory has at the start; 0 where there is none.
 fn memory_min(parts: &ModuleParts) -> u32
     ensures { result ≡ memory_min parts.now.memories }
@@ -117,17 +122,38 @@ fn memory_min(parts: &ModuleParts) -> u32
     }
 }
 
-/// The global that tells the length of the memory, which is that at the start: four bytes less, as a
-/// number of 64 bits.
-fn new_length(alloc: Global, parts: &ModuleParts) -> Result<GlobalPart, NoMemory>
-    ensures { IfOk result (λ global. global ≡ measure parts.now) }
+/// The length of the memory at the start: four bytes less, as a number of 64 bits.
+fn first_length(parts: &ModuleParts) -> u64
+    ensures { result ≡ less_word (65536 * memory_min parts.now.memories) }
 {
     let pages = memory_min(parts) as u64;
-    Ok(GlobalPart {
-        vtype: ValType::I64,
+    (65_536 * pages).wrapping_sub(4)
+}
+
+/// Adds a global of this type that begins with a value, and may change.
+fn push_global(
+    alloc: Global,
+    globals: &mut Globals,
+    vtype: ValType,
+    value: Value,
+) -> Result<(), NoMemory>
+    ensures { OnOk result (globals.new ≡ globals.old
+        ++ record { vtype = vtype; mutable = true; init = value_code value } ∷ []) }
+{
+    globals.push(GlobalPart {
+        vtype,
         mutable: true,
-        init: value_code(alloc, Value::I64((65_536 * pages).wrapping_sub(4)))?,
+        init: value_code(alloc, value)?,
     })
+}
+
+/// Adds the flag, which is down at first, and the global that tells the length of the memory, which
+/// is this at first.
+fn push_globals(alloc: Global, globals: &mut Globals, length: u64) -> Result<(), NoMemory>
+    ensures { OnOk result (globals.new ≡ globals.old ++ flag ∷ measured length ∷ []) }
+{
+    push_global(alloc, globals, ValType::I32, Value::I32(0))?;
+    push_global(alloc, globals, ValType::I64, Value::I64(length))
 }
 
 /// The globals of the module, and behind them the flag and the length of the memory.
@@ -136,7 +162,6 @@ pub(crate) fn new_globals(alloc: Global, parts: &ModuleParts) -> Result<Globals,
         ≡ parts.now.globals ++ flag ∷ measure parts.now ∷ []) }
 {
     let mut globals = duplicates(alloc, &parts.globals)?;
-    globals.push(new_flag(alloc)?)?;
-    globals.push(new_length(alloc, parts)?)?;
+    push_globals(alloc, &mut globals, first_length(parts))?;
     Ok(globals)
 }

@@ -115,8 +115,8 @@ fn shown_element(
 {
     Ok(ElementSeg {
         table: element.table,
-        offset: element.offset.duplicate(alloc)?,
         functions: shown_functions(alloc, numbers, element.functions.as_slice())?,
+        offset: element.offset.duplicate(alloc)?,
     })
 }
 
@@ -163,8 +163,8 @@ fn inner_element(
 {
     Ok(ElementSeg {
         table: element.table,
-        offset: inner_offset(alloc, numbers, element)?,
         functions: mapped_functions(alloc, numbers, element.functions.as_slice())?,
+        offset: inner_offset(alloc, numbers, element)?,
     })
 }
 

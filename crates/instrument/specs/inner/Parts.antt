@@ -15,6 +15,8 @@ use Rattle.wasm_syntax.specs.declared.parts.Body.{Body}
 use Rattle.wasm_syntax.specs.declared.module.ModuleParts.{ModuleParts as Module}
 use Rattle.wasm_syntax.specs.Module.{function_types}
 use Rattle.wasm_syntax.specs.Run.{table_min, element_at}
+use Rattle.instrument.specs.declared.module.Callable.{Callable}
+use Rattle.instrument.specs.declared.module.Stored.{Stored}
 use Rattle.rewrite_bodies.specs.Numbering.{doubles, mapped, wrapped, value_type, frame_type}
 use Rattle.rewrite_bodies.specs.calls.Pieces.{i32}
 use Rattle.rewrite_bodies.specs.calls.Guards.{less_word, helper_type}
@@ -42,12 +44,15 @@ value_code v = record {
 abbrev pub number_code : ℕ → Body
 number_code n = value_code (i32 n)
 
--- the flag, and the global that tells the length of the memory
+-- the flag, and the global that tells the length of the memory, which is this at first
 abbrev pub flag : Global
 flag = record { vtype = I32; mutable = true; init = number_code 0 }
 
+abbrev pub measured : ℕ → Global
+measured n = record { vtype = I64; mutable = true; init = value_code (values.I64 n) }
+
 abbrev pub measure : Module → Global
-measure m = record { vtype = I64; mutable = true; init = value_code (values.I64 (less_word (65536 * memory_min m.memories))) }
+measure m = measured (less_word (65536 * memory_min m.memories))
 
 -- the functions of an element are functions of the module
 abbrev pub ElementThere : Module → ElementSeg → Type 0
@@ -68,6 +73,25 @@ abbrev pub renumbered : List Export → List ℕ → List Export
 renumbered [] is = []
 renumbered (e ∷ es) [] = []
 renumbered (e ∷ es) (i ∷ is) = record { name = e.name; kind = e.kind; index = i } ∷ renumbered es is
+
+-- the parts by which functions are called
+abbrev pub callable : Module → Callable
+callable m = record {
+  types = m.types ++ more_types;
+  imports = m.imports ++ more_imports (length m.types);
+  functions = m.functions ++ (map (wrapper_type m) (wrapped m) ++ map (λ u. length m.types + 3) (types_used m));
+  exports = new_exports m 0 m.exports ++ memory_export m.memories;
+  elements = written_elements m;
+}
+
+-- what else an instance begins with
+abbrev pub stored : Module → Stored
+stored m = record {
+  tables = new_tables m;
+  memories = m.memories;
+  globals = m.globals ++ flag ∷ measure m ∷ [];
+  segments = m.segments;
+}
 
 -- all parts, with these bodies
 abbrev pub new_parts : Module → List Body → Module

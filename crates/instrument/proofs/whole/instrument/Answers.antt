@@ -2,11 +2,9 @@ use Rattle.std.proofs.Common.{◌≡◌, sym, ◌∙◌, subst}
 use Rattle.std.specs.Prelude.{None, Err}
 use Rattle.std.proofs.lemmas.Result.{err_from_is_err_and}
 use Rattle.wasm_syntax.specs.declared.module.ModuleParts.{ModuleParts as Module}
-use Rattle.rewrite_promise.specs.calls.Promise.{Promised}
-use Rattle.rewrite_promise.specs.calls.Layers.{Layered}
 use Rattle.instrument.specs.Refusal.{Decided, OwnHeights, refusal}
 use Rattle.instrument.proofs.Own.{own}
-use Rattle.instrument.proofs.RefusedModules.{refused}
+use Rattle.instrument.proofs.RefusedModules.{refused, answered}
 use Rattle.instrument.proofs.whole.instrument.Goals as goal
 
 pub admitted-requires-clause-heights : goal.admitted-requires-clause-heights
@@ -30,11 +28,4 @@ returns c =
     let heights = c.heights.result.now in
     let decided = c.in_ok-numbers.ensures in
     let none : refusal m heights ≡ None = subst (λ (x : Module). refusal x heights ≡ None) c.module.ensures.value decided.1 in
-    let numbers : c.in_ok-numbers.numbers ≡ m = decided.0 ∙ c.module.ensures.value in (
-      heights,
-      own m heights c.module.ensures.valid c.heights.ensures c.module.ensures.heights,
-      none,
-      subst (λ (x : Module). Promised x c.in_ok-rewritten.rewritten) numbers c.in_ok-rewritten.ensures.promised,
-      c.in_ok-rewritten.ensures.no_customs,
-      subst (λ (x : Module). Layered x c.in_ok-rewritten.rewritten) numbers c.in_ok-rewritten.ensures.layers,
-    )
+    answered m heights (own m heights c.module.ensures.valid c.heights.ensures c.module.ensures.heights) none c.rewritten.result c.rewritten.ensures
