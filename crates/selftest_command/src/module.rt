@@ -10,19 +10,9 @@ use crate::code::{body_of, function_code};
 use causes::NoMemory;
 use pm_text::{Items, Text};
 use std::alloc::Global;
-use wasm_syntax::{Bodies, Export, ExportKind, FuncType, Limits, Module, ModuleParts, ValType};
-
-/// Two numbers to one.
-fn function_type(alloc: Global) -> Result<FuncType, NoMemory>
-    ensures { IfOk result (λ t. t ≡ record { params = I32 ∷ I32 ∷ []; results = I32 ∷ [] }) }
-{
-    let mut params = Items::new(alloc);
-    params.push(ValType::I32)?;
-    params.push(ValType::I32)?;
-    let mut results = Items::new(alloc);
-    results.push(ValType::I32)?;
-    Ok(FuncType { params, results })
-}
+use wasm_syntax::{
+    Bodies, Export, ExportKind, Exports, FuncType, FuncTypes, Limits, Module, ModuleParts, ValType,
+};
 
 /// Each function has the one type.
 fn functions(alloc: Global, count: u32) -> Result<Items<u32>, NoMemory>
@@ -30,20 +20,6 @@ fn functions(alloc: Global, count: u32) -> Result<Items<u32>, NoMemory>
 {
     let all = vec![in alloc; 0u32; count as usize]?;
     Ok(Items::from_vec(all))
-}
-
-fn main_export(alloc: Global) -> Result<Export, NoMemory>
-    ensures { IfOk result (λ e. e ≡ record {
-      name = codes "main";
-      kind = kinds.Function;
-      index = 0;
-    }) }
-{
-    Ok(Export {
-        name: Text::from_str(alloc, "main")?,
-        kind: ExportKind::Function,
-        index: 0,
-    })
 }
 
 /// The bodies of the functions, in order.
@@ -69,23 +45,68 @@ fn one<T: Drop>(alloc: Global, item: T) -> Result<Items<T>, NoMemory>
     Ok(items)
 }
 
+/// Two numbers to one.
+fn function_type(alloc: Global) -> Result<FuncType, NoMemory>
+    ensures { IfOk result (λ t. t ≡ record { params = I32 ∷ I32 ∷ []; results = I32 ∷ [] }) }
+{
+    let mut params = Items::new(alloc);
+    params.push(ValType::I32)?;
+    params.push(ValType::I32)?;
+    let mut results = Items::new(alloc);
+    results.push(ValType::I32)?;
+    Ok(FuncType { params, results })
+}
+
+fn types(alloc: Global) -> Result<FuncTypes, NoMemory>
+    ensures { IfOk result (λ ts. ts
+        ≡ record { params = I32 ∷ I32 ∷ []; results = I32 ∷ [] } ∷ []) }
+{
+    let own = function_type(alloc)?;
+    one(alloc, own)
+}
+
+fn main_export(alloc: Global) -> Result<Export, NoMemory>
+    ensures { IfOk result (λ e. e ≡ record {
+      name = codes "main";
+      kind = kinds.Function;
+      index = 0;
+    }) }
+{
+    Ok(Export {
+        name: Text::from_str(alloc, "main")?,
+        kind: ExportKind::Function,
+        index: 0,
+    })
+}
+
+fn exports(alloc: Global) -> Result<Exports, NoMemory>
+    ensures { IfOk result (λ es. es ≡ record {
+      name = codes "main";
+      kind = kinds.Function;
+      index = 0;
+    } ∷ []) }
+{
+    let main = main_export(alloc)?;
+    one(alloc, main)
+}
+
 fn parts(alloc: Global, count: u32) -> Result<ModuleParts, NoMemory>
     requires { count ≤ 900 }
     ensures { IfOk result (λ m. m ≡ selftest count) }
 {
     let memory = Limits { min: 1, max: None };
     Ok(ModuleParts {
-        types: one(alloc, function_type(alloc)?)?,
-        imports: Items::new(alloc),
+        types: types(alloc)?,
+        exports: exports(alloc)?,
         functions: functions(alloc, count)?,
-        tables: Items::new(alloc),
         memories: one(alloc, memory)?,
+        bodies: bodies(alloc, count)?,
+        imports: Items::new(alloc),
+        tables: Items::new(alloc),
         globals: Items::new(alloc),
-        exports: one(alloc, main_export(alloc)?)?,
         start: None,
         elements: Items::new(alloc),
         segments: Items::new(alloc),
-        bodies: bodies(alloc, count)?,
         customs: Items::new(alloc),
         plain_bytes: 0,
     })

@@ -59,22 +59,21 @@ fn dump_behind(alloc: Global, instance: &Instance<'_>, end: &RunEnd) -> Result<V
 fn dump_of_instance<D: Devices>(
     alloc: Global,
     source: &Validated,
-    instance: Instance<'_>,
+    instance: &mut Instance<'_>,
     count: u32,
 ) -> Result<Vec<u8>, NoMemory>
     requires imports { source.now.imports ≡ [] }
     requires segments { cause_of_segments source.now ≡ None }
-    requires new { IsNew source.now instance }
+    requires new { IsNew source.now instance.old }
     ensures { IfOk result (λ v. RunsAlone count source.now v.items) }
 {
-    let mut instance = instance;
     let imports = source.module().parts().imports.as_slice();
     let mut hosts = Hosts::new(alloc, D::empty(alloc), None, imports);
     let args = [Value::I32(count), Value::I32(1)];
     let answer = instance.invoke("main", &args, DEPTH, FUEL, &mut hosts);
     match answer {
         Ok(end) => {
-            let dump = dump_behind(alloc, &instance, &end);
+            let dump = dump_behind(alloc, instance, &end);
             drop_hosts(hosts);
             dump
         }
@@ -105,7 +104,7 @@ pub(crate) fn original_dump<D: Devices>(
 {
     let _ = source.module().parts();
     match Instance::new(alloc, source) {
-        Ok(instance) => dump_of_instance::<D>(alloc, source, instance, count),
+        Ok(mut instance) => dump_of_instance::<D>(alloc, source, &mut instance, count),
         Err(fault) => no_dump(alloc, fault),
     }
 }

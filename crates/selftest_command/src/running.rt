@@ -87,16 +87,15 @@ fn not_begun(alloc: Global, fault: StartFault, count: u32) -> Result<Outcome, No
 fn run_instance<D: Devices>(
     alloc: Global,
     source: &Validated,
-    instance: Instance<'_>,
+    instance: &mut Instance<'_>,
     count: u32,
     own: &[u8],
 ) -> Result<Outcome, NoMemory>
     requires collected { IsCollected source.now }
     requires segments { cause_of_segments source.now ≡ None }
-    requires new { IsNew source.now instance }
+    requires new { IsNew source.now instance.old }
     ensures { IfOk result (Runs count own.now source.now) }
 {
-    let mut instance = instance;
     let imports = source.module().parts().imports.as_slice();
     let hosts = Hosts::new(alloc, D::empty(alloc), None, imports);
     let mut collecting = Collecting::new(alloc, hosts);
@@ -104,7 +103,7 @@ fn run_instance<D: Devices>(
     let answer = instance.invoke("main", &args, DEPTH, FUEL, &mut collecting);
     match answer {
         Ok(end) => {
-            let outcome = ended(alloc, &instance, &end, collecting.calls(), count, own);
+            let outcome = ended(alloc, instance, &end, collecting.calls(), count, own);
             drop_hosts(collecting.into_inner());
             outcome
         }
@@ -124,7 +123,7 @@ fn run_module<D: Devices>(
 {
     let _ = source.module().parts();
     match Instance::new(alloc, source) {
-        Ok(instance) => run_instance::<D>(alloc, source, instance, count, own),
+        Ok(mut instance) => run_instance::<D>(alloc, source, &mut instance, count, own),
         Err(fault) => not_begun(alloc, fault, count),
     }
 }
