@@ -1,6 +1,6 @@
 //! What is answered where the invocation ended.
 
-ghost use Rattle.std.specs.Prelude.{◌≡◌, ◌++◌, Ok, IfOk};
+ghost use Rattle.std.specs.Prelude.{◌≡◌, ◌++◌, Ok, IfOk, OnOk};
 ghost use Rattle.wasm_decode.specs.Decode.{module_from};
 ghost use Rattle.machine_basics.specs.calls.Traps.{trap_code};
 ghost use Rattle.commands.specs.Texts.{ended};
@@ -8,7 +8,7 @@ ghost use Rattle.commands.specs.Lines.{kind_line};
 ghost use Rattle.run_session.specs.calls.Answers.{answer_line};
 ghost use Rattle.debug_frames.specs.Information.{information};
 ghost use Rattle.cover_command.specs.CoverAnswer.{finished_line};
-ghost use Rattle.cover_command.specs.inner.Running.{TellsCounts, AnswersEnd};
+ghost use Rattle.cover_command.specs.inner.Running.{AddsCounts, TellsCounts, AnswersEnd};
 
 use crate::telling::push_covered;
 use causes::NoMemory;
@@ -43,6 +43,22 @@ fn trapped(alloc: Global, kind: TrapKind) -> Result<Text, NoMemory>
     Ok(text)
 }
 
+/// Adds the lines that tell where the steps fell, by what the bytes of the module say of its source.
+fn push_told(
+    out: &mut Text,
+    alloc: Global,
+    bytes: &[u8],
+    source: &Validated,
+    tally: &Tally,
+) -> Result<(), NoMemory>
+    requires { module_from bytes.now ≡ Ok source.now }
+    ensures { OnOk result (AddsCounts (information bytes.now source.now.customs)
+        source.now tally.now out.old out.new) }
+{
+    let information = Information::of(alloc, bytes, source.module())?;
+    push_covered(out, alloc, &information, source.module().parts(), tally)
+}
+
 /// The answer that tells where the steps fell, behind its first line.
 fn told(
     alloc: Global,
@@ -55,10 +71,8 @@ fn told(
     ensures { IfOk result (TellsCounts (information bytes.now source.now.customs)
         source.now tally.now first_line) }
 {
-    let information = Information::of(alloc, bytes, source.module())?;
     let mut text = first_line;
-    let parts = source.module().parts();
-    push_covered(&mut text, alloc, &information, parts, tally)?;
+    push_told(&mut text, alloc, bytes, source, tally)?;
     Ok(Outcome {
         status: Status::Done,
         text,

@@ -1,12 +1,12 @@
 //! The text of counted steps.
 
-ghost use Rattle.std.specs.Prelude.{◌≡◌, ◌<◌, ◌^◌, ◌++◌, List, Option, map, length, IfOk, OnOk};
+ghost use Rattle.std.specs.Prelude.{◌≡◌, ◌++◌, map, IfOk, OnOk};
 ghost use Rattle.std.specs.List.{flat_map};
 ghost use Rattle.std.specs.BTreeMap.{IsOrdered};
-ghost use Rattle.machine_steps.specs.Places.{Place};
-ghost use Rattle.machine_steps.specs.calls.Tallies.{Counted};
-ghost use Rattle.cover_command.specs.CoverText.{CoverText, count_text, sums_text};
-ghost use Rattle.cover_command.specs.SourceLines.{source_line};
+ghost use Rattle.debug_frames.specs.Information.{SourceInformation};
+ghost use Rattle.debug_frames.specs.calls.Kept.{programs_of, readable};
+ghost use Rattle.cover_command.specs.CoverText.{count_text, sums_text};
+ghost use Rattle.cover_command.specs.inner.Running.{AddsCounts};
 ghost use Rattle.cover_command.specs.inner.Merging.{file_line_cmp, seen_line, seen_counts};
 
 use crate::merging::{NamedLine, merge};
@@ -65,6 +65,24 @@ fn borrowed<'r, 'a>(alloc: Global, lines: &'r [Lines<'a>]) -> Result<Vec<&'r Lin
     Ok(tables)
 }
 
+/// Adds the lines that tell where the steps fell, by the line programs that could be read.
+fn push_placed(
+    out: &mut Text,
+    alloc: Global,
+    tables: &Vec<&Lines<'_>>,
+    source: &ModuleParts,
+    tally: &Tally,
+) -> Result<(), NoMemory>
+    ensures { (x : SourceInformation)
+        → map (λ l. l.now) tables.now.items ≡ readable (programs_of x.sections x.units)
+        → OnOk result (AddsCounts x source.now tally.now out.old out.new) }
+{
+    let coverage = Coverage::of(alloc, tables, source, tally)?;
+    let counts = merge(alloc, tables, coverage.lines())?;
+    push_counts(out, &counts)?;
+    push_sums(out, coverage.unplaced(), coverage.steps())
+}
+
 /// Adds the lines that tell where the steps fell that were counted of runs of a module, by what
 /// its bytes say of its source.
 pub(crate) fn push_covered(
@@ -74,14 +92,9 @@ pub(crate) fn push_covered(
     source: &ModuleParts,
     tally: &Tally,
 ) -> Result<(), NoMemory>
-    ensures { OnOk result ((seen : List (Option Place)) → Counted source.now tally.now seen
-        → length seen < 2 ^ 64 → CoverText out.old (map (source_line information.now source.now) seen)
-        out.new) }
+    ensures { OnOk result (AddsCounts information.now source.now tally.now out.old out.new) }
 {
     let lines = information.programs().lines(alloc)?;
     let tables = borrowed(alloc, lines.as_slice())?;
-    let coverage = Coverage::of(alloc, &tables, source, tally)?;
-    let counts = merge(alloc, &tables, coverage.lines())?;
-    push_counts(out, &counts)?;
-    push_sums(out, coverage.unplaced(), coverage.steps())
+    push_placed(out, alloc, &tables, source, tally)
 }

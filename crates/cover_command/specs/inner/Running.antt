@@ -30,11 +30,13 @@ Came w collecting used_up before now answer uncounted counted old new =
     → Invoked p collecting w.depth used_up f w.called.args w.fuel before now answer old new
     × Seen Counted p collecting w.depth f w.called.args w.fuel before now answer uncounted counted old new)
 
--- these counts are told behind an ending, wherever the steps were made
+-- a text tells these counts behind an ending, wherever the steps were made
+abbrev pub AddsCounts : SourceInformation → Module → Counts → (ending text : List ℕ) → Type 0
+AddsCounts lines m t ending text = (seen : List (Option Place)) → Counted m t seen → length seen < 2 ^ 64 → CoverText ending (map (source_line lines m) seen) text
+
+-- they are told behind it
 abbrev pub TellsCounts : SourceInformation → Module → Counts → (ending : List ℕ) → Outcome → Type 0
-TellsCounts lines m t ending o =
-    (o.status ≡ status.Done)
-    × ((seen : List (Option Place)) → Counted m t seen → length seen < 2 ^ 64 → CoverText ending (map (source_line lines m) seen) o.text)
+TellsCounts lines m t ending o = (o.status ≡ status.Done) × AddsCounts lines m t ending o.text
 
 -- what is answered where the invocation came to this, behind so many calls that were replied to
 abbrev pub AnswersEnd : SourceInformation → Module → Counts → (given : ℕ) → RunEnd → Outcome → Type 0

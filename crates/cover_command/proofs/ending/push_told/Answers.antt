@@ -1,4 +1,4 @@
-use Rattle.cover_command.proofs.ending.told.Goals as goal
+use Rattle.cover_command.proofs.ending.push_told.Goals as goal
 use Rattle.wasm_decode.proofs.Short.{short_bytes}
 
 pub of-requires : goal.of-requires
