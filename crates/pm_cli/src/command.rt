@@ -1,13 +1,13 @@
 //! What the commands answer.
 
-ghost use Rattle.std.specs.Prelude.{map, IfOk};
+ghost use Rattle.std.specs.Prelude.{◌≡◌, ℕ, List, map, Some, IfOk};
 ghost use Rattle.std.specs.String.{string_bytes};
 ghost use Rattle.causes.specs.Counts.{Rose};
 ghost use Rattle.host_set.specs.Sets.{AreDistinct, names};
 ghost use Rattle.pm_cli.specs.Answer.{IsAnswer, Answered};
 ghost use Rattle.commands.specs.Told.{UnlessFault};
 ghost use Rattle.pm_cli.specs.Stops.{Quiet, WordsStop};
-ghost use Rattle.pm_cli.specs.Words.{command};
+ghost use Rattle.pm_cli.specs.Words.{HasBounds, command};
 ghost use Rattle.run_session.specs.Stop.{OnStop};
 ghost use Rattle.pm_outside.specs.calls.Kept.{FilesGoOn};
 ghost use Rattle.commands.specs.calls.Ended.{Ended};
@@ -26,6 +26,44 @@ use replay_command::replay_file;
 use run_command::run_file;
 use selftest_command::selftest_files;
 use std::alloc::Global;
+
+/// What a command gets, which some words ask for.
+#[tactic(auto, unfolding(crate::specs::Answer::IsAnswer))]
+fn perform<F: Files, D: Devices>(
+    alloc: Global,
+    asked: Command,
+    files: &mut F,
+    devices: &mut D,
+) -> Result<Outcome, NoMemory>
+    requires distinct { AreDistinct (names (D.shown devices.old)) }
+    requires bounds { HasBounds asked }
+    ensures told { (words : List (List ℕ)) → command words ≡ Some asked
+        → IfOk result (λ o. UnlessFault o.status
+        (Answered (D.shown devices.old) (D.shown devices.new)
+        words (F.told files.old) (F.told files.new) o)) }
+    ensures stops { (words : List (List ℕ)) → command words ≡ Some asked
+        → OnStop (λ stop. WordsStop stop words (D.shown devices.old) (D.shown devices.new)
+        (F.told files.old) (F.told files.new)) result }
+    ensures quiet { (words : List (List ℕ)) → command words ≡ Some asked
+        → Quiet (command words) (D.shown devices.old) (D.shown devices.new)
+        (F.told files.old) (F.told files.new) (F.created files.old) (F.created files.new) }
+    ensures distinct { AreDistinct (names (D.shown devices.new)) }
+    ensures files { FilesGoOn F.told F.faults files.old files.new }
+    ensures ended { IfOk result (Ended (λ _. Rose (F.faults files.old) (F.faults files.new))) }
+{
+    match asked {
+        Command::Check { module } => check_file(alloc, files, module.as_str()),
+        Command::Run(words) => run_file(alloc, files, &words, devices),
+        Command::Instrument { module, out } => {
+            instrument_file(alloc, files, module.as_str(), out.as_str())
+        }
+        Command::Show { dump } => show_file(alloc, files, dump.as_str()),
+        Command::Debug(words) => debug_file(alloc, files, &words),
+        Command::Selftest { count } => selftest_files::<F, D>(alloc, files, count),
+        Command::Replay(words) => replay_file(alloc, files, &words),
+        Command::Cover(words) => cover_file(alloc, files, &words, devices),
+    }
+}
 
 /// What the words get.
 #[tactic(auto, unfolding(crate::specs::Answer::IsAnswer))]
@@ -49,16 +87,7 @@ pub fn respond<F: Files, D: Devices>(
     ensures ended { IfOk result (Ended (λ _. Rose (F.faults files.old) (F.faults files.new))) }
 {
     match parse_words(alloc, words) {
-        Ok(Command::Check { module }) => check_file(alloc, files, module.as_str()),
-        Ok(Command::Run(words)) => run_file(alloc, files, &words, devices),
-        Ok(Command::Instrument { module, out }) => {
-            instrument_file(alloc, files, module.as_str(), out.as_str())
-        }
-        Ok(Command::Show { dump }) => show_file(alloc, files, dump.as_str()),
-        Ok(Command::Debug(words)) => debug_file(alloc, files, &words),
-        Ok(Command::Selftest { count }) => selftest_files::<F, D>(alloc, files, count),
-        Ok(Command::Replay(words)) => replay_file(alloc, files, &words),
-        Ok(Command::Cover(words)) => cover_file(alloc, files, &words, devices),
+        Ok(asked) => perform(alloc, asked, files, devices),
         Err(WordsFault::Usage) => plain(
             alloc,
             Status::Usage,
