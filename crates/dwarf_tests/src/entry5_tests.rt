@@ -18,26 +18,49 @@ const LOCATIONS: [u8; 89] = [
     0, 2, 1, 0x30, 9, 0, 4, 0, 2, 1, 0x30,
 ];
 
-// Where the list stands, the base, the address, and the place of the expression.
-const FOUND: [(usize, u32, u32, usize, usize); 13] = [
-    (0, 2, 4, 4, 2),
-    (0, 2, 15, 4, 2),
-    (0, 2, 16, 8, 1),
-    (10, 0, 100, 16, 1),
-    (10, 7, 103, 16, 1),
-    (10, 0, 16, 21, 1),
-    (10, 0, 99, 21, 1),
-    (10, 0, 0xffff_ffff, 26, 1),
-    (10, 0, 201, 36, 1),
-    (10, 0, 301, 47, 1),
-    (10, 0, 401, 55, 1),
-    (57, 0, 1, 67, 1),
-    (57, 0, 2, 59, 1),
+// The base of the table, where the list stands, the base, the address, and the place of the
+// expression that counts.
+type LocationRow = (
+    Option<u32>,
+    usize,
+    u32,
+    u32,
+    Result<Option<Span>, ReadFault>,
+);
+
+const FOUND: [LocationRow; 25] = [
+    (Some(4), 0, 2, 4, Ok(Some(Span { at: 4, len: 2 }))),
+    (Some(4), 0, 2, 15, Ok(Some(Span { at: 4, len: 2 }))),
+    (Some(4), 0, 2, 16, Ok(Some(Span { at: 8, len: 1 }))),
+    (Some(4), 10, 0, 100, Ok(Some(Span { at: 16, len: 1 }))),
+    (Some(4), 10, 7, 103, Ok(Some(Span { at: 16, len: 1 }))),
+    (Some(4), 10, 0, 16, Ok(Some(Span { at: 21, len: 1 }))),
+    (Some(4), 10, 0, 99, Ok(Some(Span { at: 21, len: 1 }))),
+    (
+        Some(4),
+        10,
+        0,
+        0xffff_ffff,
+        Ok(Some(Span { at: 26, len: 1 })),
+    ),
+    (Some(4), 10, 0, 201, Ok(Some(Span { at: 36, len: 1 }))),
+    (Some(4), 10, 0, 301, Ok(Some(Span { at: 47, len: 1 }))),
+    (Some(4), 10, 0, 401, Ok(Some(Span { at: 55, len: 1 }))),
+    (Some(4), 57, 0, 1, Ok(Some(Span { at: 67, len: 1 }))),
+    (Some(4), 57, 0, 2, Ok(Some(Span { at: 59, len: 1 }))),
+    (Some(4), 10, 0, 15, Ok(None)),
+    (Some(4), 10, 0, 104, Ok(None)),
+    (Some(4), 10, 0, 202, Ok(None)),
+    (Some(4), 10, 0, 302, Ok(None)),
+    (Some(4), 10, 0, 402, Ok(None)),
+    (Some(4), 69, 0, 0, Err(ReadFault::Unreadable { at: 69 })),
+    (Some(4), 77, 0, 0, Err(ReadFault::Unreadable { at: 77 })),
+    (Some(4), 84, 0, 0, Err(ReadFault::Unreadable { at: 84 })),
+    (Some(4), 89, 0, 0, Err(ReadFault::Unreadable { at: 89 })),
+    (Some(4), 90, 0, 0, Err(ReadFault::Unreadable { at: 90 })),
+    (Some(8), 10, 0, 100, Err(ReadFault::Unreadable { at: 10 })),
+    (None, 10, 0, 100, Err(ReadFault::Unreadable { at: 10 })),
 ];
-
-const NOT_HELD: [u32; 5] = [15, 104, 202, 302, 402];
-
-const CUT: [usize; 5] = [69, 77, 84, 89, 90];
 
 // At 0 each kind. At 35 one that stands in location lists alone.
 const RANGES: [u8; 40] = [
@@ -45,64 +68,50 @@ const RANGES: [u8; 40] = [
     0x90, 1, 0, 0, 2, 0, 4, 0, 2, 8, 0,
 ];
 
-const IN_RANGES: [u32; 7] = [16, 99, 103, 0xffff_ffff, 201, 301, 401];
+// Where the list stands, the address, and whether the list holds it.
+type RangeRow = (usize, u32, Result<bool, ReadFault>);
 
-#[test]
-fn locations_are_found(rt: HostRuntime) {
-    let addresses = AddressTable::new(&ADDRESSES, Some(4));
-    for (at, base, address, from, size) in FOUND {
-        let span = loclist_location(&LOCATIONS, &addresses, at, base, address);
-        assert!(rt;
-            matches!(span, Ok(Some(Span { at: start, len })) if start == from && len == size),
-            "{at} {address}"
-        );
+const HELD: [RangeRow; 13] = [
+    (0, 16, Ok(true)),
+    (0, 99, Ok(true)),
+    (0, 103, Ok(true)),
+    (0, 0xffff_ffff, Ok(true)),
+    (0, 201, Ok(true)),
+    (0, 301, Ok(true)),
+    (0, 401, Ok(true)),
+    (0, 15, Ok(false)),
+    (0, 104, Ok(false)),
+    (0, 202, Ok(false)),
+    (0, 302, Ok(false)),
+    (0, 402, Ok(false)),
+    (35, 0, Err(ReadFault::Unreadable { at: 35 })),
+];
+
+fn is_found(row: &LocationRow) -> bool {
+    let addresses = AddressTable::new(&ADDRESSES, row.0);
+    loclist_location(&LOCATIONS, &addresses, row.1, row.2, row.3) == row.4
+}
+
+fn are_found(rows: &[LocationRow]) -> bool {
+    for row in rows {
+        if !is_found(row) {
+            return false;
+        }
     }
-    for address in NOT_HELD {
-        assert!(rt;
-            matches!(
-                loclist_location(&LOCATIONS, &addresses, 10, 0, address),
-                Ok(None)
-            ),
-            "{address}"
-        );
+    true
+}
+
+fn are_held(addresses: &AddressTable<'_>, rows: &[RangeRow]) -> bool {
+    for row in rows {
+        if rnglist_holds(&RANGES, addresses, row.0, 0, row.1) != row.2 {
+            return false;
+        }
     }
+    true
 }
 
 #[test]
-fn cut_lists_are_refused(rt: HostRuntime) {
-    let addresses = AddressTable::new(&ADDRESSES, Some(4));
-    for at in CUT {
-        let span = loclist_location(&LOCATIONS, &addresses, at, 0, 0);
-        assert!(rt;
-            matches!(span, Err(ReadFault::Unreadable { at: start }) if start == at),
-            "{at}"
-        );
-    }
-    assert!(rt;
-        matches!(
-            rnglist_holds(&RANGES, &addresses, 35, 0, 0),
-            Err(ReadFault::Unreadable { at: 35 })
-        )
-    );
-    let other = AddressTable::new(&ADDRESSES, Some(8));
-    assert!(rt; matches!(loclist_location(&LOCATIONS, &other, 10, 0, 100), Err(_)));
-    let none = AddressTable::new(&ADDRESSES, None);
-    assert!(rt; matches!(loclist_location(&LOCATIONS, &none, 10, 0, 100), Err(_)));
-}
-
-#[test]
-fn ranges_are_held(rt: HostRuntime) {
-    let addresses = AddressTable::new(&ADDRESSES, Some(4));
-    for address in IN_RANGES {
-        assert!(rt;
-            matches!(rnglist_holds(&RANGES, &addresses, 0, 0, address), Ok(true)),
-            "{address}"
-        );
-    }
-    for address in NOT_HELD {
-        assert!(rt;
-            matches!(rnglist_holds(&RANGES, &addresses, 0, 0, address), Ok(false)),
-            "{address}"
-        );
-    }
+fn lists_hold_addresses(rt: HostRuntime) {
+    assert!(rt; are_found(&FOUND));
+    assert!(rt; are_held(&AddressTable::new(&ADDRESSES, Some(4)), &HELD));
 }

@@ -146,6 +146,9 @@ const BASES: [(Base, Row); 10] = [
     (Base::Absent, (&[0xed, 0x04, 0x00], ("fault", 0, 0))),
 ];
 
+// All but those of frame bases.
+const TABLES: [&[Row]; 3] = [&VALUES, &FAULTS, &OTHERS];
+
 const LOCALS: [Seen; 4] = [
     Seen::I32(4_294_967_295),
     Seen::Missing,
@@ -158,15 +161,6 @@ const OPERANDS: [Seen; 2] = [Seen::I32(5), Seen::I32(6)];
 const GLOBALS: [Seen; 1] = [Seen::I32(9)];
 
 const CONTENTS: [(u64, &[u8]); 1] = [(16, &[1, 2, 3, 4])];
-
-fn view_of(memory: &Option<Memory>) -> FrameView<'_> {
-    FrameView {
-        locals: &LOCALS,
-        operands: &OPERANDS,
-        globals: &GLOBALS,
-        memory: memory.as_ref(),
-    }
-}
 
 fn view_of_locals<'a>(locals: &'a [Seen]) -> FrameView<'a> {
     FrameView {
@@ -195,41 +189,35 @@ fn means(view: &FrameView<'_>, base: Base, row: &Row) -> bool {
     row.0.len() <= LONGEST && meaning(&eval(row.0, view, base)) == row.1
 }
 
-/// The number of the first row that means something else over the frame with memory, or how many
-/// rows there are.
-fn first_wrong(alloc: Global, rows: &[Row]) -> usize {
-    let memory = memory_with(alloc, &CONTENTS);
-    let view = view_of(&memory);
+fn first_wrong_in(view: &FrameView<'_>, rows: &[Row]) -> Option<usize> {
     for (i, row) in rows.iter().enumerate() {
-        if !means(&view, Base::At(992), row) {
-            return i;
+        if !means(view, Base::At(992), row) {
+            return Some(i);
         }
     }
-    rows.len()
+    None
+}
+
+/// The number of the first row that means something else over the frame with memory.
+fn first_wrong(alloc: Global, rows: &[Row]) -> Option<usize> {
+    let memory = memory_with(alloc, &CONTENTS);
+    let view = FrameView {
+        locals: &LOCALS,
+        operands: &OPERANDS,
+        globals: &GLOBALS,
+        memory: memory.as_ref(),
+    };
+    first_wrong_in(&view, rows)
 }
 
 #[test]
-fn expressions_have_values(rt: HostRuntime) {
-    assert_eq!(rt; first_wrong(rt.alloc(), &VALUES), VALUES.len());
-}
-
-#[test]
-fn expressions_have_faults(rt: HostRuntime) {
-    assert_eq!(rt; first_wrong(rt.alloc(), &FAULTS), FAULTS.len());
-}
-
-#[test]
-fn expressions_have_other_meanings(rt: HostRuntime) {
-    assert_eq!(rt; first_wrong(rt.alloc(), &OTHERS), OTHERS.len());
-}
-
-#[test]
-fn what_is_not_recorded(rt: HostRuntime) {
-    let view = view_of_locals(&[Seen::I32(992), Seen::Missing]);
-    for (base, row) in &BASES {
-        assert!(rt; means(&view, *base, row), "{} {}", row.1.0, row.1.1);
+fn expressions_have_meanings(rt: HostRuntime) {
+    for rows in TABLES {
+        assert_eq!(rt; first_wrong(rt.alloc(), rows), None);
     }
 }
+
+const IN_PIECES: [u8; 11] = [0x31, 0x93, 4, 0x93, 2, 0xed, 0x00, 0x02, 0x93, 0x80, 0x01];
 
 const PIECES: [Piece; 3] = [
     Piece {
@@ -253,13 +241,6 @@ fn has_pieces(found: &Eval, pieces: &[Piece]) -> bool {
     }
 }
 
-#[test]
-fn values_are_in_pieces(rt: HostRuntime) {
-    let view = view_of_locals(&LOCALS);
-    let expr = [0x31, 0x93, 4, 0x93, 2, 0xed, 0x00, 0x02, 0x93, 0x80, 0x01];
-    assert!(rt; has_pieces(&eval(&expr, &view, Base::At(992)), &PIECES));
-}
-
 // Expressions of frame bases, and the bases, where local 0 is 992.
 const FRAME_BASES: [(&[u8], Base); 4] = [
     (&[0xed, 0x00, 0x00, 0x9f], Base::At(992)),
@@ -269,9 +250,14 @@ const FRAME_BASES: [(&[u8], Base); 4] = [
 ];
 
 #[test]
-fn frame_bases_are_known(rt: HostRuntime) {
-    let view = view_of_locals(&[Seen::I32(992)]);
+fn frames_without_memory(rt: HostRuntime) {
+    let view = view_of_locals(&[Seen::I32(992), Seen::Missing]);
+    for (base, row) in &BASES {
+        assert!(rt; means(&view, *base, row));
+    }
     for (expr, base) in &FRAME_BASES {
         assert!(rt; expr.len() <= LONGEST && frame_base(expr, &view) == *base);
     }
+    let view = view_of_locals(&LOCALS);
+    assert!(rt; has_pieces(&eval(&IN_PIECES, &view, Base::At(992)), &PIECES));
 }

@@ -1,7 +1,7 @@
 //! The forms of version 4 in a unit of version 5, codes that are those of no form, and units that
 //! are cut at each byte.
 
-use crate::reading::{EntryRow, Sample, is_read5, is_unreadable5};
+use crate::reading::{EntryRow, Sample, UNREADABLE, are_read5, is_read5};
 use crate::samples::{ABBREV, FORMS, INFO, TEXTS};
 use std::alloc::Global;
 
@@ -97,36 +97,29 @@ const SAMPLES: [Sample<'static>; 3] = [
 
 #[test]
 fn forms_of_version_4_are_read(rt: HostRuntime) {
-    for sample in &SAMPLES {
-        assert!(rt; is_read5(rt.alloc(), sample), "{} bytes", sample.info.len());
-    }
+    assert!(rt; are_read5(rt.alloc(), &SAMPLES));
 }
 
-/// The unit is unreadable where its entry has an attribute of that form.
-fn is_no_form(alloc: Global, info: &[u8], form: u8) -> bool {
-    let abbrev = [0x01, 0x11, 0x00, 0x03, form, 0x00, 0x00, 0x00];
-    is_unreadable5(alloc, info, &abbrev, &TEXTS)
-}
-
-#[test]
-fn codes_of_no_form_are_refused(rt: HostRuntime) {
-    for form in NO_FORMS4 {
-        assert!(rt; is_no_form(rt.alloc(), &UNIT4, form), "{form}");
+/// The unit is unreadable where its entry has an attribute of one of these forms.
+fn are_no_forms(alloc: Global, info: &[u8], forms: &[u8]) -> bool {
+    for form in forms {
+        let abbrev = [0x01, 0x11, 0x00, 0x03, *form, 0x00, 0x00, 0x00];
+        if !is_read5(alloc, info, &abbrev, &TEXTS, UNREADABLE, &[]) {
+            return false;
+        }
     }
-    for form in NO_FORMS5 {
-        assert!(rt; is_no_form(rt.alloc(), &UNIT5, form), "{form}");
-    }
+    true
 }
 
 /// The unit is unreadable wherever its sections are cut.
 fn is_unreadable_cut(alloc: Global, info: &[u8], abbrev: &[u8]) -> bool {
     for len in 1..info.len() {
-        if !is_unreadable5(alloc, &info[..len], abbrev, &TEXTS) {
+        if !is_read5(alloc, &info[..len], abbrev, &TEXTS, UNREADABLE, &[]) {
             return false;
         }
     }
     for len in 0..abbrev.len() {
-        if !is_unreadable5(alloc, info, &abbrev[..len], &TEXTS) {
+        if !is_read5(alloc, info, &abbrev[..len], &TEXTS, UNREADABLE, &[]) {
             return false;
         }
     }
@@ -134,7 +127,10 @@ fn is_unreadable_cut(alloc: Global, info: &[u8], abbrev: &[u8]) -> bool {
 }
 
 #[test]
-fn units_that_are_cut_at_any_byte_are_unreadable(rt: HostRuntime) {
-    assert!(rt; is_unreadable_cut(rt.alloc(), &INFO, &ABBREV));
-    assert!(rt; is_unreadable_cut(rt.alloc(), &VALUES, &FORMS));
+fn other_forms_and_cut_units_are_refused(rt: HostRuntime) {
+    let alloc = rt.alloc();
+    assert!(rt; are_no_forms(alloc, &UNIT4, &NO_FORMS4));
+    assert!(rt; are_no_forms(alloc, &UNIT5, &NO_FORMS5));
+    assert!(rt; is_unreadable_cut(alloc, &INFO, &ABBREV));
+    assert!(rt; is_unreadable_cut(alloc, &VALUES, &FORMS));
 }

@@ -16,17 +16,16 @@ pub fn memory_with(alloc: Global, contents: &[(u64, &[u8])]) -> Option<Memory> {
 
 /// Where a value comes from: it is this number, or stands at this address, or its expression is
 /// bad.
-#[derive(Clone, Copy)]
 pub enum Origin {
     Number(u64),
     Address(u32),
     BadExpression,
 }
 
-pub fn source_of(origin: Origin) -> Source {
+pub fn source_of(origin: &Origin) -> Source {
     match origin {
-        Origin::Number(number) => Source::Single(PiecePlace::Value(number)),
-        Origin::Address(address) => Source::Single(PiecePlace::Address(address)),
+        Origin::Number(number) => Source::Single(PiecePlace::Value(*number)),
+        Origin::Address(address) => Source::Single(PiecePlace::Address(*address)),
         Origin::BadExpression => Source::Lost(Mark::BadExpression),
     }
 }

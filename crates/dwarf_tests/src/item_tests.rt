@@ -7,7 +7,6 @@ ghost use Rattle.wasm_bytes.specs.Reading.{◌▷◌, u64_item, done_item};
 use dwarf_bytes::{Ended, ended_items, number, open_long, open_unit, text};
 use pm_text::Items;
 use std::alloc::Global;
-use std::test::Fail;
 use wasm_bytes::{ItemFault, Reader};
 
 // A number of two bytes, a text "ab", a block of two bytes, a unit of one byte, and a list of 5 and
@@ -18,7 +17,7 @@ const BYTES: [u8; 18] = [
 ];
 
 /// A number of a list that ends with 0.
-#[derive(Clone, Copy)]
+#[derive(Drop)]
 struct Listed {
     number: u64,
 }
@@ -37,22 +36,47 @@ impl<'a> Ended<'a> for Listed {
     }
 }
 
+fn has_block(reader: &mut Reader<'_>) -> bool {
+    match open_long(reader) {
+        Ok(block) => block.at() == 6 && block.left() == 2,
+        Err(_) => false,
+    }
+}
+
+fn has_unit(reader: &mut Reader<'_>) -> bool {
+    match open_unit(reader) {
+        Ok(unit) => unit.at() == 12 && unit.left() == 1,
+        Err(_) => false,
+    }
+}
+
+fn has_list(alloc: Global, reader: &mut Reader<'_>) -> bool {
+    match ended_items::<Listed>(alloc, reader) {
+        Ok(list) => matches!(
+            list.as_slice(),
+            [first, second] if first.number == 5 && second.number == 128
+        ),
+        Err(_) => false,
+    }
+}
+
+fn has_number_and_text(reader: &mut Reader<'_>) -> bool {
+    let number = matches!(number(reader, 2), Ok(0x1234));
+    number && matches!(text(reader), Ok([0x61, 0x62]))
+}
+
+fn has_items(alloc: Global, reader: &mut Reader<'_>) -> bool {
+    has_number_and_text(reader)
+        && has_block(reader)
+        && has_unit(reader)
+        && reader.at() == 13
+        && has_list(alloc, reader)
+        && reader.at() == 17
+}
+
 #[test]
-fn items_are_read(rt: HostRuntime) -> Result<(), Fail> {
-    let mut reader = Reader::new(&BYTES);
-    assert!(rt; matches!(number(&mut reader, 2), Ok(0x1234)));
-    assert!(rt; matches!(text(&mut reader), Ok([0x61, 0x62])));
-    let block = open_long(&mut reader).ok().ok_or("the block is there")?;
-    assert!(rt; block.at() == 6 && block.left() == 2);
-    let unit = open_unit(&mut reader).ok().ok_or("the unit is there")?;
-    assert!(rt; unit.at() == 12 && unit.left() == 1 && reader.at() == 13);
-    let list: Result<Items<Listed>, ItemFault> = ended_items(rt.alloc(), &mut reader);
-    let list = list.ok().ok_or("the list is there")?;
-    let [first, second] = list.as_slice() else {
-        return Err("there are two numbers".into());
-    };
-    assert!(rt; first.number == 5 && second.number == 128 && reader.at() == 17);
-    Ok(())
+fn items_are_read(rt: HostRuntime) {
+    assert!(rt; has_items(rt.alloc(), &mut Reader::new(&BYTES)));
 }
 
 #[test]

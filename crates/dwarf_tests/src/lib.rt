@@ -29,6 +29,8 @@ mod path_tests;
 #[cfg(test)]
 mod reading;
 #[cfg(test)]
+mod recorded;
+#[cfg(test)]
 mod samples;
 #[cfg(test)]
 mod scope_tests;

@@ -78,16 +78,26 @@ const BOUNDS: [(usize, Option<(u32, u32)>); 5] = [
     (0, Some((16, 20))),
 ];
 
-// A program with its texts, and what it says.
-struct Program {
-    line: &'static [u8],
-    str: &'static [u8],
-    line_str: &'static [u8],
-    directories: &'static [&'static [u8]],
-    // Names, with the numbers of their directories.
-    files: &'static [(&'static [u8], u64)],
-    // Addresses, and the rows that hold them.
-    places: &'static [(u32, Option<Row>)],
+/// A program with its texts, and what it says.
+pub struct Program {
+    pub line: &'static [u8],
+    pub str: &'static [u8],
+    pub line_str: &'static [u8],
+    pub told: Told,
+}
+
+/// What a program says.
+pub struct Told {
+    /// The number of the first directory and of the first file.
+    pub first: u32,
+    pub directories: &'static [&'static [u8]],
+    /// Names, with the numbers of their directories.
+    pub files: &'static [(&'static [u8], u64)],
+    pub sequences: usize,
+    /// Addresses, and the address, file, line and column of their rows.
+    pub places: &'static [[u32; 5]],
+    /// Addresses that no row holds.
+    pub outside: &'static [u32],
 }
 
 const PROGRAMS: [Program; 3] = [
@@ -95,44 +105,40 @@ const PROGRAMS: [Program; 3] = [
         line: &SMALL,
         str: &[],
         line_str: &[],
-        directories: &[b"/"],
-        files: &[(b"t.c", 0), (b"t.c", 0)],
-        places: &[
-            (
-                45,
-                Some(Row {
-                    address: 43,
-                    file: 1,
-                    line: 5,
-                    column: 0,
-                }),
-            ),
-            (49, None),
-        ],
+        told: Told {
+            first: 0,
+            directories: &[b"/"],
+            files: &[(b"t.c", 0), (b"t.c", 0)],
+            sequences: 1,
+            places: &[[45, 43, 1, 5, 0]],
+            outside: &[49],
+        },
     },
     Program {
         line: &ASSEMBLED,
         str: &[],
         line_str: &ASSEMBLED_NAMES,
-        directories: &[b"/s", b"inc"],
-        files: &[(b"a.c", 0), (b"a.c", 0), (b"b.h", 1)],
-        places: &[(
-            347,
-            Some(Row {
-                address: 44,
-                file: 2,
-                line: 9,
-                column: 1,
-            }),
-        )],
+        told: Told {
+            first: 0,
+            directories: &[b"/s", b"inc"],
+            files: &[(b"a.c", 0), (b"a.c", 0), (b"b.h", 1)],
+            sequences: 1,
+            places: &[[347, 44, 2, 9, 1]],
+            outside: &[],
+        },
     },
     Program {
         line: &FORMS,
         str: &FORMS_NAMES,
         line_str: &[],
-        directories: &[b"/d"],
-        files: &[(b"a", 2)],
-        places: &[],
+        told: Told {
+            first: 0,
+            directories: &[b"/d"],
+            files: &[(b"a", 2)],
+            sequences: 0,
+            places: &[],
+            outside: &[],
+        },
     },
 ];
 
@@ -178,36 +184,45 @@ fn are_files(files: &[LineFile<'_>], rows: &[(&[u8], u64)]) -> bool {
     true
 }
 
-fn has_places(lines: &Lines<'_>, places: &[(u32, Option<Row>)]) -> bool {
-    for (address, row) in places {
-        if lines.place(*address) != *row {
+fn has_places(lines: &Lines<'_>, places: &[[u32; 5]]) -> bool {
+    for place in places {
+        let row = Row {
+            address: place[1],
+            file: place[2],
+            line: place[3],
+            column: place[4],
+        };
+        if lines.place(place[0]) != Some(row) {
             return false;
         }
     }
     true
 }
 
+fn holds_none(lines: &Lines<'_>, addresses: &[u32]) -> bool {
+    for address in addresses {
+        if lines.place(*address).is_some() {
+            return false;
+        }
+    }
+    true
+}
+
+/// Whether a program says this.
+pub fn says(lines: &Lines<'_>, told: &Told) -> bool {
+    lines.first == told.first
+        && lines.sequences.len() == told.sequences
+        && are_names(&lines.directories, told.directories)
+        && are_files(lines.files.as_slice(), told.files)
+        && has_places(lines, told.places)
+        && holds_none(lines, told.outside)
+}
+
 fn is_read(alloc: Global, program: &Program) -> bool {
     let sections = sections(program.line, program.str, program.line_str);
     match read_lines5(alloc, &sections, 0) {
-        Ok(lines) => {
-            lines.first == 0
-                && are_names(&lines.directories, program.directories)
-                && are_files(lines.files.as_slice(), program.files)
-                && has_places(&lines, program.places)
-        }
+        Ok(lines) => says(&lines, &program.told),
         Err(_) => false,
-    }
-}
-
-#[test]
-fn programs_are_read(rt: HostRuntime) {
-    for program in &PROGRAMS {
-        assert!(rt;
-            is_read(rt.alloc(), program),
-            "{} bytes",
-            program.line.len()
-        );
     }
 }
 
@@ -228,19 +243,6 @@ fn is_broken_by(alloc: Global, index: usize, byte: u8) -> bool {
     is_unreadable(alloc, &bytes, &[])
 }
 
-#[test]
-fn broken_programs_are_refused(rt: HostRuntime) {
-    for len in 0..70 {
-        assert!(rt; is_unreadable(rt.alloc(), &SMALL[..len], &[]), "{len}");
-    }
-    for (index, byte) in &BROKEN {
-        assert!(rt; is_broken_by(rt.alloc(), *index, *byte), "{index}");
-    }
-    // The last name does not end, or does not begin.
-    assert!(rt; is_unreadable(rt.alloc(), &ASSEMBLED, &ASSEMBLED_NAMES[..14]));
-    assert!(rt; is_unreadable(rt.alloc(), &ASSEMBLED, &ASSEMBLED_NAMES[..11]));
-}
-
 /// These are the bounds of the programs at these offsets, scanned one after the other.
 fn are_bounds(alloc: Global, line: &[u8], rows: &[(usize, Option<(u32, u32)>)]) -> bool {
     let Ok(prepared) = PreparedSections::new(alloc, &sections(line, &[], &[])) else {
@@ -255,6 +257,23 @@ fn are_bounds(alloc: Global, line: &[u8], rows: &[(usize, Option<(u32, u32)>)]) 
         }
     }
     true
+}
+
+#[test]
+fn programs_are_read_or_refused(rt: HostRuntime) {
+    let alloc = rt.alloc();
+    for program in &PROGRAMS {
+        assert!(rt; is_read(alloc, program));
+    }
+    for len in 0..70 {
+        assert!(rt; is_unreadable(alloc, &SMALL[..len], &[]));
+    }
+    for (index, byte) in &BROKEN {
+        assert!(rt; is_broken_by(alloc, *index, *byte));
+    }
+    // The last name does not end, or does not begin.
+    assert!(rt; is_unreadable(alloc, &ASSEMBLED, &ASSEMBLED_NAMES[..14]));
+    assert!(rt; is_unreadable(alloc, &ASSEMBLED, &ASSEMBLED_NAMES[..11]));
 }
 
 #[test]

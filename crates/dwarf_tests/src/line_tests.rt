@@ -2,10 +2,10 @@
 //! made by an assembler (GNU binutils 2.40), and EACH by hand with each opcode. The rows are those
 //! that llvm-dwarfdump 14 and readelf print.
 
+use crate::line5_tests::{Told, says};
 use dwarf_bytes::ReadFault;
-use dwarf_line::{Lines, Row, read_lines};
+use dwarf_line::read_lines;
 use std::alloc::Global;
-use std::test::Fail;
 
 // Version 4. Rows at 2, 14, 21 and 43, end 49.
 const SMALL: [u8; 55] = [
@@ -51,39 +51,76 @@ const APART: [u8; 114] = [
     0x01, 0x01,
 ];
 
-// An address, and the address, file, line and column of its row.
-const SMALL_PLACES: [[u32; 5]; 3] = [[2, 2, 1, 2, 0], [45, 43, 1, 5, 0], [48, 43, 1, 5, 0]];
-
-const ASSEMBLED_PLACES: [[u32; 5]; 4] = [
-    [36, 36, 1, 3, 0],
-    [43, 40, 1, 4, 7],
-    [347, 44, 2, 9, 1],
-    [348, 348, 1, 2, 0],
+// Programs, and what they say.
+const PROGRAMS: [(&[u8], Told); 4] = [
+    (
+        &SMALL,
+        Told {
+            first: 1,
+            directories: &[],
+            files: &[(b"t.c", 0)],
+            sequences: 1,
+            places: &[[2, 2, 1, 2, 0], [45, 43, 1, 5, 0], [48, 43, 1, 5, 0]],
+            outside: &[1, 49],
+        },
+    ),
+    (
+        &ASSEMBLED,
+        Told {
+            first: 1,
+            directories: &[b"inc"],
+            files: &[(b"a.c", 0), (b"b.h", 1)],
+            sequences: 1,
+            places: &[
+                [36, 36, 1, 3, 0],
+                [43, 40, 1, 4, 7],
+                [347, 44, 2, 9, 1],
+                [348, 348, 1, 2, 0],
+            ],
+            outside: &[35, 349],
+        },
+    ),
+    (
+        &EACH,
+        Told {
+            first: 1,
+            directories: &[b"inc"],
+            files: &[(b"h.c", 1), (b"x.h", 1)],
+            sequences: 3,
+            places: &[
+                [9, 8, 1, 100, 0],
+                [16, 16, 1, 1, 7],
+                [103, 24, 2, 4, 7],
+                [104, 104, 2, 4, 7],
+                [112, 112, 2, 7, 7],
+                [115, 112, 2, 7, 7],
+                [135, 8, 1, 100, 0],
+            ],
+            outside: &[7, 136],
+        },
+    ),
+    (
+        &APART,
+        Told {
+            first: 1,
+            directories: &[],
+            files: &[(b"t.c", 0)],
+            sequences: 5,
+            places: &[
+                [2, 2, 1, 4, 0],
+                [7, 6, 1, 6, 0],
+                [15, 6, 1, 6, 0],
+                [30, 30, 1, 5, 0],
+                [33, 30, 1, 5, 0],
+                [43, 40, 1, 2, 0],
+                [44, 44, 1, 3, 0],
+                [49, 44, 1, 3, 0],
+                [107, 100, 1, 6, 0],
+            ],
+            outside: &[1, 16, 29, 34, 39, 50, 99, 108],
+        },
+    ),
 ];
-
-const EACH_PLACES: [[u32; 5]; 7] = [
-    [9, 8, 1, 100, 0],
-    [16, 16, 1, 1, 7],
-    [103, 24, 2, 4, 7],
-    [104, 104, 2, 4, 7],
-    [112, 112, 2, 7, 7],
-    [115, 112, 2, 7, 7],
-    [135, 8, 1, 100, 0],
-];
-
-const APART_PLACES: [[u32; 5]; 9] = [
-    [2, 2, 1, 4, 0],
-    [7, 6, 1, 6, 0],
-    [15, 6, 1, 6, 0],
-    [30, 30, 1, 5, 0],
-    [33, 30, 1, 5, 0],
-    [43, 40, 1, 2, 0],
-    [44, 44, 1, 3, 0],
-    [49, 44, 1, 3, 0],
-    [107, 100, 1, 6, 0],
-];
-
-const APART_NONE: [u32; 8] = [1, 16, 29, 34, 39, 50, 99, 108];
 
 // Bytes of SMALL that make it unreadable: the version, operations of an instruction, line range,
 // opcode base, the length of an extended opcode, that of the header, and those of the unit.
@@ -100,81 +137,39 @@ const BROKEN: [(usize, u8); 10] = [
     (3, 0xFF),
 ];
 
-fn has_places(lines: &Lines<'_>, places: &[[u32; 5]]) -> bool {
-    places.iter().all(|place| {
-        lines.place(place[0])
-            == Some(Row {
-                address: place[1],
-                file: place[2],
-                line: place[3],
-                column: place[4],
-            })
-    })
-}
-
-fn program<'a>(alloc: Global, section: &'a [u8]) -> Result<Lines<'a>, Fail> {
-    Ok(
-        read_lines(alloc, section, 0)
-            .ok()
-            .ok_or("the program has a reading")?,
-    )
-}
-
-#[test]
-fn places_are_found(rt: HostRuntime) -> Result<(), Fail> {
-    let small = program(rt.alloc(), &SMALL)?;
-    assert!(rt; has_places(&small, &SMALL_PLACES));
-    assert!(rt; small.place(1).is_none() && small.place(49).is_none());
-    let assembled = program(rt.alloc(), &ASSEMBLED)?;
-    assert!(rt; has_places(&assembled, &ASSEMBLED_PLACES));
-    assert!(rt; assembled.place(35).is_none() && assembled.place(349).is_none());
-    let each = program(rt.alloc(), &EACH)?;
-    assert!(rt; has_places(&each, &EACH_PLACES));
-    assert!(rt; each.place(7).is_none() && each.place(136).is_none());
-    Ok(())
-}
-
-#[test]
-fn sequences_that_are_apart_are_found(rt: HostRuntime) -> Result<(), Fail> {
-    let apart = program(rt.alloc(), &APART)?;
-    assert!(rt; has_places(&apart, &APART_PLACES));
-    assert!(rt;
-        APART_NONE
-            .iter()
-            .all(|address| apart.place(*address).is_none())
-    );
-    Ok(())
-}
-
-#[test]
-fn names_are_read(rt: HostRuntime) -> Result<(), Fail> {
-    let lines = program(rt.alloc(), &EACH)?;
-    assert!(rt; lines.first == 1 && lines.sequences.len() == 3);
-    assert!(rt;
-        matches!(lines.directories.as_slice(), [name] if name.as_slice() == b"inc".as_slice())
-    );
-    let [header, defined] = lines.files.as_slice() else {
-        return Err("there are two files")?;
-    };
-    assert!(rt; header.name.as_slice() == b"h.c".as_slice() && header.directory == 1);
-    assert!(rt; defined.name.as_slice() == b"x.h".as_slice() && defined.directory == 1);
-    Ok(())
+fn is_read(alloc: Global, section: &[u8], told: &Told) -> bool {
+    match read_lines(alloc, section, 0) {
+        Ok(lines) => says(&lines, told),
+        Err(_) => false,
+    }
 }
 
 fn is_unreadable(alloc: Global, section: &[u8], at: usize) -> bool {
     matches!(read_lines(alloc, section, at), Err(ReadFault::Unreadable { at: o }) if o == at)
 }
 
+/// SMALL is unreadable with this byte.
+fn is_broken_by(alloc: Global, index: usize, byte: u8) -> bool {
+    let mut bytes = SMALL;
+    if index >= bytes.len() {
+        return false;
+    }
+    bytes[index] = byte;
+    is_unreadable(alloc, &bytes, 0)
+}
+
 #[test]
-fn broken_programs_are_refused(rt: HostRuntime) {
+fn programs_are_read_or_refused(rt: HostRuntime) {
+    let alloc = rt.alloc();
+    for (section, told) in &PROGRAMS {
+        assert!(rt; is_read(alloc, section, told));
+    }
     for len in 0..55 {
-        assert!(rt; is_unreadable(rt.alloc(), &SMALL[..len], 0));
+        assert!(rt; is_unreadable(alloc, &SMALL[..len], 0));
     }
     for (index, byte) in &BROKEN {
-        let mut bytes = SMALL;
-        bytes[*index] = *byte;
-        assert!(rt; is_unreadable(rt.alloc(), &bytes, 0));
+        assert!(rt; is_broken_by(alloc, *index, *byte));
     }
-    assert!(rt; is_unreadable(rt.alloc(), &SMALL, 55));
-    assert!(rt; is_unreadable(rt.alloc(), &SMALL, 56));
+    assert!(rt; is_unreadable(alloc, &SMALL, 55));
+    assert!(rt; is_unreadable(alloc, &SMALL, 56));
 }

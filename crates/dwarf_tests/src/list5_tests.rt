@@ -3,7 +3,7 @@
 ghost use Rattle.dwarf_info.specs.Sections.{IsReadable5};
 
 use dwarf_bytes::ReadFault;
-use dwarf_info::{Sections, Sections5, Unit, UnitAnswer, Units};
+use dwarf_info::{Sections, Sections5, Unit, UnitAnswer};
 use dwarf_loc::{AddressTable, Span};
 use dwarf_scopes::{location_in, range_in};
 use dwarf5_info::{plain_expr, read_units5, with_addresses};
@@ -60,137 +60,135 @@ fn sections<'a>() -> Sections5<'a>
     }
 }
 
-/// The units, the first of which is number 0.
-fn units(alloc: Global) -> Option<Units<'static>> {
-    read_units5(alloc, &sections()).ok()
+// What is asked of a unit, and the answer.
+enum Asked {
+    // The offset of a list, an address, and the expression that counts.
+    Location(usize, u32, Result<Option<Span>, ReadFault>),
+    // The offset of a list, an address, and whether the list holds it.
+    Range(usize, u32, Result<bool, ReadFault>),
+    // An expression, and the same with addresses in place of indices.
+    Plain(&'static [u8], &'static [u8]),
 }
 
-/// The unit of that number, where it is read.
-fn unit_of<'r, 'a>(units: &'r Option<Units<'a>>, number: usize) -> Option<&'r Unit<'a>> {
-    match units.as_ref()?.as_slice().get(number)? {
-        UnitAnswer::Tree(unit) => Some(unit),
-        UnitAnswer::Unreadable { .. } => None,
-    }
-}
-
-// The number of a unit, the offset of a list, an address, and the expression that counts.
-type LocationRow = (usize, usize, u32, Result<Option<Span>, ReadFault>);
-
-const LOCATIONS: [LocationRow; 10] = [
-    (0, 0, 104, Ok(Some(Span { at: 7, len: 1 }))),
-    (0, 0, 105, Ok(Some(Span { at: 4, len: 1 }))),
-    (0, 0, 107, Ok(Some(Span { at: 4, len: 1 }))),
-    (0, 0, 108, Ok(Some(Span { at: 7, len: 1 }))),
-    (0, 8, 105, Ok(None)),
-    (0, 9, 0xFFFF_FFF1, Ok(Some(Span { at: 13, len: 1 }))),
-    (0, 9, 0xFFFF_FFF2, Ok(None)),
-    (0, 15, 0, Err(ReadFault::Unreadable { at: 15 })),
-    (0, 21, 0, Err(ReadFault::Unreadable { at: 21 })),
-    (1, 0, 103, Ok(Some(Span { at: 10, len: 1 }))),
+// The numbers of units.
+const ROWS: [(usize, Asked); 19] = [
+    (0, Asked::Location(0, 104, Ok(Some(Span { at: 7, len: 1 })))),
+    (0, Asked::Location(0, 105, Ok(Some(Span { at: 4, len: 1 })))),
+    (0, Asked::Location(0, 107, Ok(Some(Span { at: 4, len: 1 })))),
+    (0, Asked::Location(0, 108, Ok(Some(Span { at: 7, len: 1 })))),
+    (0, Asked::Location(8, 105, Ok(None))),
+    (
+        0,
+        Asked::Location(9, 0xFFFF_FFF1, Ok(Some(Span { at: 13, len: 1 }))),
+    ),
+    (0, Asked::Location(9, 0xFFFF_FFF2, Ok(None))),
+    (
+        0,
+        Asked::Location(15, 0, Err(ReadFault::Unreadable { at: 15 })),
+    ),
+    (
+        0,
+        Asked::Location(21, 0, Err(ReadFault::Unreadable { at: 21 })),
+    ),
+    (
+        1,
+        Asked::Location(0, 103, Ok(Some(Span { at: 10, len: 1 }))),
+    ),
+    (0, Asked::Range(0, 104, Ok(false))),
+    (0, Asked::Range(0, 105, Ok(true))),
+    (0, Asked::Range(0, 108, Ok(false))),
+    (0, Asked::Range(4, 0x10, Ok(true))),
+    (0, Asked::Range(4, 0x15, Ok(false))),
+    (0, Asked::Range(8, 0, Err(ReadFault::Unreadable { at: 8 }))),
+    (
+        0,
+        Asked::Range(12, 0, Err(ReadFault::Unreadable { at: 12 })),
+    ),
+    (
+        0,
+        Asked::Plain(&[0xA1, 0x00], &[0x03, 0x10, 0x00, 0x00, 0x00]),
+    ),
+    (1, Asked::Plain(&[0xA1, 0x00], &[0xA1, 0x00])),
 ];
 
-fn is_location(units: &Option<Units<'_>>, row: &LocationRow) -> bool {
-    match unit_of(units, row.0) {
-        Some(unit) => location_in(&sections(), unit, row.1, row.2) == row.3,
-        None => false,
-    }
-}
-
-/// The number of the first row where another expression counts, or how many rows there are.
-fn first_other_location(units: &Option<Units<'_>>) -> usize {
-    for (i, row) in LOCATIONS.iter().enumerate() {
-        if !is_location(units, row) {
-            return i;
-        }
-    }
-    LOCATIONS.len()
-}
-
-#[test]
-fn locations_of_a_unit_are_found(rt: HostRuntime) {
-    let wrong = first_other_location(&units(rt.alloc()));
-    assert_eq!(rt; wrong, LOCATIONS.len());
-}
-
-// The offset of a list of the first unit, an address, and whether the list holds it.
-type RangeRow = (usize, u32, Result<bool, ReadFault>);
-
-const RANGES: [RangeRow; 7] = [
-    (0, 104, Ok(false)),
-    (0, 105, Ok(true)),
-    (0, 108, Ok(false)),
-    (4, 0x10, Ok(true)),
-    (4, 0x15, Ok(false)),
-    (8, 0, Err(ReadFault::Unreadable { at: 8 })),
-    (12, 0, Err(ReadFault::Unreadable { at: 12 })),
-];
-
-fn is_range(units: &Option<Units<'_>>, row: &RangeRow) -> bool {
-    match unit_of(units, 0) {
-        Some(unit) => range_in(&sections(), unit, row.0, row.1) == row.2,
-        None => false,
-    }
-}
-
-/// The number of the first row where the list says something else, or how many rows there are.
-fn first_other_range(units: &Option<Units<'_>>) -> usize {
-    for (i, row) in RANGES.iter().enumerate() {
-        if !is_range(units, row) {
-            return i;
-        }
-    }
-    RANGES.len()
-}
-
-#[test]
-fn ranges_of_a_unit_hold_addresses(rt: HostRuntime) {
-    let wrong = first_other_range(&units(rt.alloc()));
-    assert_eq!(rt; wrong, RANGES.len());
-}
-
-/// The expression is this one in the unit of that number, with addresses in place of indices.
-fn is_plain_in(alloc: Global, number: usize, expr: &[u8], expected: &[u8]) -> bool {
-    let units = units(alloc);
-    let Some(unit) = unit_of(&units, number) else {
-        return false;
-    };
+fn is_plain_in(alloc: Global, unit: &Unit<'_>, expr: &[u8], expected: &[u8]) -> bool {
     match plain_expr(alloc, &sections(), unit, expr) {
         Ok(plain) => plain.as_slice() == expected,
         Err(_) => false,
     }
 }
 
+fn is_answered(alloc: Global, unit: &Unit<'_>, asked: &Asked) -> bool {
+    match asked {
+        Asked::Location(at, address, wanted) => {
+            location_in(&sections(), unit, *at, *address) == *wanted
+        }
+        Asked::Range(at, address, wanted) => range_in(&sections(), unit, *at, *address) == *wanted,
+        Asked::Plain(expr, expected) => is_plain_in(alloc, unit, expr, expected),
+    }
+}
+
+fn is_right(alloc: Global, units: &[UnitAnswer<'_>], number: usize, asked: &Asked) -> bool {
+    match units.get(number) {
+        Some(UnitAnswer::Tree(unit)) => is_answered(alloc, unit, asked),
+        _ => false,
+    }
+}
+
+fn first_wrong_in(alloc: Global, units: &[UnitAnswer<'_>]) -> Option<usize> {
+    for (i, (number, asked)) in ROWS.iter().enumerate() {
+        if !is_right(alloc, units, *number, asked) {
+            return Some(i);
+        }
+    }
+    None
+}
+
+/// The number of the first row with another answer.
+fn first_wrong(alloc: Global) -> Option<usize> {
+    match read_units5(alloc, &sections()) {
+        Ok(units) => first_wrong_in(alloc, units.as_slice()),
+        Err(_) => Some(0),
+    }
+}
+
 #[test]
-fn expressions_of_a_unit_have_addresses(rt: HostRuntime) {
-    let expr = [0xA1, 0x00];
-    assert!(rt; is_plain_in(rt.alloc(), 0, &expr, &[0x03, 0x10, 0x00, 0x00, 0x00]));
-    assert!(rt; is_plain_in(rt.alloc(), 1, &expr, &expr));
+fn lists_and_expressions_of_units(rt: HostRuntime) {
+    assert_eq!(rt; first_wrong(rt.alloc()), None);
 }
 
 // An expression, and the same without addrx: replaced; between others; an index of two bytes;
 // without an entry, and then replaced; behind an operator that is not known; inside an operand;
 // cut; behind a cut operator; behind a deref_size of another size; empty. The answers are those of
-// a program written apart.
-const EXPRESSIONS: [(&[u8], &[u8]); 10] = [
-    (&[0xA1, 0x01], &[0x03, 0xF0, 0xFF, 0xFF, 0xFF]),
+// a program written apart. In front of them the base of the table; the last one has none.
+const EXPRESSIONS: [(Option<u32>, &[u8], &[u8]); 11] = [
+    (Some(4), &[0xA1, 0x01], &[0x03, 0xF0, 0xFF, 0xFF, 0xFF]),
     (
+        Some(4),
         &[0x31, 0xA1, 0x01, 0x22],
         &[0x31, 0x03, 0xF0, 0xFF, 0xFF, 0xFF, 0x22],
     ),
-    (&[0xA1, 0x80, 0x00], &[0x03, 0x10, 0, 0, 0]),
+    (Some(4), &[0xA1, 0x80, 0x00], &[0x03, 0x10, 0, 0, 0]),
     (
+        Some(4),
         &[0xA1, 0x02, 0xA1, 0x00],
         &[0xA1, 0x02, 0x03, 0x10, 0, 0, 0],
     ),
-    (&[0xE0, 0xA1, 0x01], &[0xE0, 0xA1, 0x01]),
-    (&[0x03, 0xA1, 0x01, 0, 0], &[0x03, 0xA1, 0x01, 0, 0]),
-    (&[0x31, 0xA1, 0x80], &[0x31, 0xA1, 0x80]),
-    (&[0x0A, 0xA1], &[0x0A, 0xA1]),
+    (Some(4), &[0xE0, 0xA1, 0x01], &[0xE0, 0xA1, 0x01]),
     (
+        Some(4),
+        &[0x03, 0xA1, 0x01, 0, 0],
+        &[0x03, 0xA1, 0x01, 0, 0],
+    ),
+    (Some(4), &[0x31, 0xA1, 0x80], &[0x31, 0xA1, 0x80]),
+    (Some(4), &[0x0A, 0xA1], &[0x0A, 0xA1]),
+    (
+        Some(4),
         &[0x94, 0x03, 0xA1, 0x00],
         &[0x94, 0x03, 0x03, 0x10, 0, 0, 0],
     ),
-    (&[], &[]),
+    (Some(4), &[], &[]),
+    (None, &[0x31, 0xA1, 0x01], &[0x31, 0xA1, 0x01]),
 ];
 
 fn is_plain(alloc: Global, base: Option<u32>, expr: &[u8], expected: &[u8]) -> bool {
@@ -202,13 +200,7 @@ fn is_plain(alloc: Global, base: Option<u32>, expr: &[u8], expected: &[u8]) -> b
 
 #[test]
 fn addresses_stand_in_place_of_indices(rt: HostRuntime) {
-    for (expr, expected) in &EXPRESSIONS {
-        assert!(rt;
-            is_plain(rt.alloc(), Some(4), expr, expected),
-            "{} bytes",
-            expr.len()
-        );
+    for (base, expr, expected) in &EXPRESSIONS {
+        assert!(rt; is_plain(rt.alloc(), *base, expr, expected));
     }
-    let expr = [0x31, 0xA1, 0x01];
-    assert!(rt; is_plain(rt.alloc(), None, &expr, &expr));
 }

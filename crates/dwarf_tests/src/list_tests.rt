@@ -15,28 +15,29 @@ const LOCATIONS: [u8; 155] = [
     0, 0, 0, 0, 0, 0, 2, 0, 0, 0, 4, 0, 0, 0, 1, 0, 0x35, 0, 0, 0, 0, 0, 0, 0,
 ];
 
-// Where the list stands, the base, the address, and the place of the expression.
-const FOUND: [(usize, u32, u32, usize, usize); 9] = [
-    (0, 0, 2, 10, 2),
-    (0, 0, 5, 10, 2),
-    (0, 0, 14, 22, 1),
-    (0, 100, 103, 10, 2),
-    (42, 0, 2, 52, 1),
-    (42, 0, 102, 71, 1),
-    (42, 7, 4, 90, 1),
-    (99, 0, 0, 109, 1),
-    (118, 0, 0xffff_fff0, 128, 1),
-];
+// Where the list stands, the base, the address, and the place of the expression that counts.
+type LocationRow = (usize, u32, u32, Result<Option<Span>, ReadFault>);
 
-const NOT_HELD: [(usize, u32, u32); 5] = [
-    (0, 0, 20),
-    (0, 0, 1),
-    (99, 0, 4),
-    (118, 32, 16),
-    (34, 0, 0),
+const FOUND: [LocationRow; 18] = [
+    (0, 0, 2, Ok(Some(Span { at: 10, len: 2 }))),
+    (0, 0, 5, Ok(Some(Span { at: 10, len: 2 }))),
+    (0, 0, 14, Ok(Some(Span { at: 22, len: 1 }))),
+    (0, 100, 103, Ok(Some(Span { at: 10, len: 2 }))),
+    (42, 0, 2, Ok(Some(Span { at: 52, len: 1 }))),
+    (42, 0, 102, Ok(Some(Span { at: 71, len: 1 }))),
+    (42, 7, 4, Ok(Some(Span { at: 90, len: 1 }))),
+    (99, 0, 0, Ok(Some(Span { at: 109, len: 1 }))),
+    (118, 0, 0xffff_fff0, Ok(Some(Span { at: 128, len: 1 }))),
+    (0, 0, 20, Ok(None)),
+    (0, 0, 1, Ok(None)),
+    (99, 0, 4, Ok(None)),
+    (118, 32, 16, Ok(None)),
+    (34, 0, 0, Ok(None)),
+    (137, 0, 2, Err(ReadFault::Unreadable { at: 137 })),
+    (148, 0, 2, Err(ReadFault::Unreadable { at: 148 })),
+    (155, 0, 2, Err(ReadFault::Unreadable { at: 155 })),
+    (156, 0, 2, Err(ReadFault::Unreadable { at: 156 })),
 ];
-
-const CUT: [usize; 4] = [137, 148, 155, 156];
 
 // At 0: from 2 up to 14 counted from the base, and from 102 up to 104. At 32 an empty list. At 40 a
 // list without an end mark.
@@ -45,59 +46,38 @@ const RANGES: [u8; 48] = [
     0, 0, 0, 0, 0, 0, 0, 0, 0, 0, 0, 0, 0, 2, 0, 0, 0, 4, 0, 0, 0,
 ];
 
-const HELD: [(usize, u32, u32, bool); 6] = [
-    (0, 0, 3, true),
-    (0, 1, 2, false),
-    (0, 0, 14, false),
-    (0, 7, 103, true),
-    (0, 0, 104, false),
-    (32, 0, 0, false),
+// The same, and whether the list holds the address.
+type RangeRow = (usize, u32, u32, Result<bool, ReadFault>);
+
+const HELD: [RangeRow; 7] = [
+    (0, 0, 3, Ok(true)),
+    (0, 1, 2, Ok(false)),
+    (0, 0, 14, Ok(false)),
+    (0, 7, 103, Ok(true)),
+    (0, 0, 104, Ok(false)),
+    (32, 0, 0, Ok(false)),
+    (40, 0, 3, Err(ReadFault::Unreadable { at: 40 })),
 ];
 
-#[test]
-fn locations_are_found(rt: HostRuntime) {
-    for (at, base, address, from, size) in FOUND {
-        let span = location_at(&LOCATIONS, at, base, address);
-        assert!(rt;
-            matches!(span, Ok(Some(Span { at: start, len })) if start == from && len == size),
-            "{at} {address}"
-        );
+fn are_found(rows: &[LocationRow]) -> bool {
+    for row in rows {
+        if location_at(&LOCATIONS, row.0, row.1, row.2) != row.3 {
+            return false;
+        }
     }
+    true
+}
+
+fn are_held(rows: &[RangeRow]) -> bool {
+    for row in rows {
+        if range_holds(&RANGES, row.0, row.1, row.2) != row.3 {
+            return false;
+        }
+    }
+    true
 }
 
 #[test]
-fn other_addresses_are_not_held(rt: HostRuntime) {
-    for (at, base, address) in NOT_HELD {
-        assert!(rt;
-            matches!(location_at(&LOCATIONS, at, base, address), Ok(None)),
-            "{at} {address}"
-        );
-    }
-}
-
-#[test]
-fn cut_lists_are_refused(rt: HostRuntime) {
-    for at in CUT {
-        let span = location_at(&LOCATIONS, at, 0, 2);
-        assert!(rt;
-            matches!(span, Err(ReadFault::Unreadable { at: start }) if start == at),
-            "{at}"
-        );
-    }
-    assert!(rt;
-        matches!(
-            range_holds(&RANGES, 40, 0, 3),
-            Err(ReadFault::Unreadable { at: 40 })
-        )
-    );
-}
-
-#[test]
-fn ranges_are_held(rt: HostRuntime) {
-    for (at, base, address, wanted) in HELD {
-        assert!(rt;
-            matches!(range_holds(&RANGES, at, base, address), Ok(held) if held == wanted),
-            "{at} {address}"
-        );
-    }
+fn lists_hold_addresses(rt: HostRuntime) {
+    assert!(rt; are_found(&FOUND) && are_held(&HELD));
 }

@@ -2,7 +2,8 @@
 //! points and integers of 16 bytes, in namespaces and in other units. The expected texts are from
 //! the standard's rules by hand.
 
-use crate::shown_tests::{Asked, Row, Scene, first_wrong};
+use crate::recorded::{self, Recorded, Table};
+use crate::shown_tests::{Asked, Row, Scene};
 use wasm_syntax::Seen;
 
 const ABBREV: [u8; 90] = [
@@ -34,39 +35,37 @@ const INFO: [u8; 354] = [
     114, 0, 16, 5, 3, 40, 0, 0, 0, 0,
 ];
 
-const OBJECTS: Scene = Scene {
+const MODULE: Recorded = Recorded {
     info: &INFO,
     abbrev: &ABBREV,
     loc: &[],
-    address: 110,
-    locals: &[Seen::I32(40), Seen::I32(44)],
-    operands: &[],
-    left: None,
-    globals: &[],
-    contents: (
+    ranges: &[],
+    contents: &[(
         40,
         &[
             0x87, 0xd6, 0x12, 0, 77, 0, 0, 0, 0xbb, 3, 0, 0, 65, 0, 0, 0, 0xfe, 0xff, 0xff, 0xff,
             0xff, 0xff, 0xff, 0xff, 0xff, 0xff, 0xff, 0xff, 0xff, 0xff, 0xff, 0xff, 0, 0, 0, 0, 0,
             0, 0, 0, 0, 0, 0, 0, 0, 0, 0, 0x80,
         ],
-    ),
+    )],
 };
 
-const PLACES: [Row; 5] = [
+const OBJECTS: Scene = Scene {
+    address: 110,
+    locals: &[Seen::I32(40), Seen::I32(44)],
+    operands: &[],
+    left: None,
+    globals: &[],
+};
+
+const ROWS: [Row; 26] = [
+    // One location alone holds the address.
     (Asked::Path("s.b"), "77"),
     (Asked::Path("x"), "77"),
     (Asked::Path("y"), "77"),
     (Asked::Path("z"), "44"),
     (Asked::Path("t.a"), "40"),
-];
-
-#[test]
-fn one_location_alone_holds_the_address(rt: HostRuntime) {
-    assert_eq!(rt; first_wrong(rt.alloc(), &OBJECTS, &PLACES), PLACES.len());
-}
-
-const MEMBERS: [Row; 6] = [
+    // Static members are no part of the object.
     (
         Asked::Path("s"),
         "{a = 1234567, k = 951, n = <optimised out>, m = 1234567, b = 77}",
@@ -82,14 +81,7 @@ const MEMBERS: [Row; 6] = [
         Asked::Listed(68),
         "{a = 1234567, k = 951, n = <optimised out>, m = 1234567, b = 77}",
     ),
-];
-
-#[test]
-fn static_members_are_no_part_of_the_object(rt: HostRuntime) {
-    assert_eq!(rt; first_wrong(rt.alloc(), &OBJECTS, &MEMBERS), MEMBERS.len());
-}
-
-const BASES: [Row; 7] = [
+    // Code points and wide integers have texts.
     (Asked::Path("p"), "955 '\\u{3bb}'"),
     (Asked::Path("q"), "65 'A'"),
     (Asked::Path("r"), "-2"),
@@ -97,14 +89,7 @@ const BASES: [Row; 7] = [
     (Asked::Path("v"), "-170141183460469231731687303715884105728"),
     (Asked::Path("w"), "170141183460469231731687303715884105728"),
     (Asked::Path("o"), "<unsupported type>"),
-];
-
-#[test]
-fn code_points_and_wide_integers_have_texts(rt: HostRuntime) {
-    assert_eq!(rt; first_wrong(rt.alloc(), &OBJECTS, &BASES), BASES.len());
-}
-
-const NAMES: [Row; 8] = [
+    // Names reach namespaces and other units.
     (Asked::Path("counter"), "77"),
     (Asked::Path("deep"), "1234567"),
     (Asked::Path("both"), "77"),
@@ -115,7 +100,10 @@ const NAMES: [Row; 8] = [
     (Asked::Path("n"), "no variable"),
 ];
 
+const TABLE: Table = Table::Shown(&OBJECTS, &ROWS);
+
 #[test]
-fn names_reach_namespaces_and_other_units(rt: HostRuntime) {
-    assert_eq!(rt; first_wrong(rt.alloc(), &OBJECTS, &NAMES), NAMES.len());
+fn objects_are_shown(rt: HostRuntime) {
+    let wrong = recorded::first_wrong(rt.alloc(), &MODULE, &TABLE);
+    assert_eq!(rt; wrong, None);
 }

@@ -82,27 +82,23 @@ fn are_steps(steps: &[Step<'_>], rows: &[StepRow]) -> bool {
     true
 }
 
-fn is_path(alloc: Global, text: &str, name: &[u8], rows: &[StepRow]) -> bool {
+/// The text is a path of a variable by these steps, or none where no variable is given.
+fn is_path(alloc: Global, text: &str, name: Option<&[u8]>, rows: &[StepRow]) -> bool {
     match parse_path(alloc, text) {
-        Ok(Some(path)) => path.name.as_slice() == name && are_steps(path.steps.as_slice(), rows),
-        _ => false,
+        Ok(Some(path)) => {
+            Some(path.name.as_slice()) == name && are_steps(path.steps.as_slice(), rows)
+        }
+        Ok(None) => name.is_none(),
+        Err(_) => false,
     }
 }
 
 #[test]
-fn paths_are_read(rt: HostRuntime) {
+fn texts_are_paths_or_none(rt: HostRuntime) {
     for (text, name, rows) in &PATHS {
-        assert!(rt; is_path(rt.alloc(), text, name, rows), "{text}");
+        assert!(rt; is_path(rt.alloc(), text, Some(*name), rows));
     }
-}
-
-fn is_none(alloc: Global, text: &str) -> bool {
-    matches!(parse_path(alloc, text), Ok(None))
-}
-
-#[test]
-fn other_texts_are_none(rt: HostRuntime) {
     for text in NONE {
-        assert!(rt; is_none(rt.alloc(), text), "{text}");
+        assert!(rt; is_path(rt.alloc(), text, None, &[]));
     }
 }

@@ -32,8 +32,10 @@ pub type EntryRow<'t> = (u32, u32, u64, &'t [Seen]);
 /// A unit: its offset, and its version. One without a version is unreadable.
 pub type UnitRow = (usize, Option<u32>);
 
+/// One unit, which is unreadable.
+pub const UNREADABLE: &[UnitRow] = &[(0, None)];
+
 /// Sections, and what is read in them.
-#[derive(Clone, Copy)]
 pub struct Sample<'t> {
     pub info: &'t [u8],
     pub abbrev: &'t [u8],
@@ -196,42 +198,50 @@ fn are_units(answers: &[UnitAnswer<'_>], rows: &[UnitRow]) -> bool {
     true
 }
 
-fn is_as_wanted(alloc: Global, units: &Option<Units<'_>>, sample: &Sample<'_>) -> bool {
-    match units {
-        Some(units) => {
-            are_units(units.as_slice(), sample.units)
-                && has_entries(alloc, units.as_slice(), sample.entries)
+fn are_as_wanted(
+    alloc: Global,
+    found: &Option<Units<'_>>,
+    units: &[UnitRow],
+    entries: &[EntryRow<'_>],
+) -> bool {
+    match found {
+        Some(found) => {
+            are_units(found.as_slice(), units) && has_entries(alloc, found.as_slice(), entries)
         }
         None => false,
     }
 }
 
-/// The sample is read so, by a reader of version 4.
-pub fn is_read4(alloc: Global, sample: &Sample<'_>) -> bool {
-    is_as_wanted(
-        alloc,
-        &units4(alloc, sample.info, sample.abbrev, sample.str),
-        sample,
-    )
+/// These sections have these units, and the first of them these entries, by a reader of version 4.
+pub fn is_read4(
+    alloc: Global,
+    info: &[u8],
+    abbrev: &[u8],
+    str: &[u8],
+    units: &[UnitRow],
+    entries: &[EntryRow<'_>],
+) -> bool {
+    are_as_wanted(alloc, &units4(alloc, info, abbrev, str), units, entries)
 }
 
-/// The sample is read so, by a reader of versions 4 and 5.
-pub fn is_read5(alloc: Global, sample: &Sample<'_>) -> bool {
-    is_as_wanted(
-        alloc,
-        &units5(alloc, sample.info, sample.abbrev, sample.str),
-        sample,
-    )
+/// The same by a reader of versions 4 and 5.
+pub fn is_read5(
+    alloc: Global,
+    info: &[u8],
+    abbrev: &[u8],
+    str: &[u8],
+    units: &[UnitRow],
+    entries: &[EntryRow<'_>],
+) -> bool {
+    are_as_wanted(alloc, &units5(alloc, info, abbrev, str), units, entries)
 }
 
-/// A reader of versions 4 and 5 finds one unit, which is unreadable.
-pub fn is_unreadable5(alloc: Global, info: &[u8], abbrev: &[u8], str: &[u8]) -> bool {
-    let sample = Sample {
-        info,
-        abbrev,
-        str,
-        units: &[(0, None)],
-        entries: &[],
-    };
-    is_read5(alloc, &sample)
+/// All samples are read so by a reader of versions 4 and 5.
+pub fn are_read5(alloc: Global, samples: &[Sample<'_>]) -> bool {
+    for s in samples {
+        if !is_read5(alloc, s.info, s.abbrev, s.str, s.units, s.entries) {
+            return false;
+        }
+    }
+    true
 }

@@ -2,6 +2,7 @@
 //! version 4, and chains of types.
 
 use crate::reading::EntryRow;
+use crate::recorded::Recorded;
 
 /// The abbreviations of the unit of the module.
 pub const ABBREV: [u8; 103] = [
@@ -50,7 +51,16 @@ pub const ENTRIES: [EntryRow<'static>; 13] = [
 ];
 
 /// What a frame of the module has in memory, from 1000 on: `p`, `x` and `s`.
-pub const STACK: (u64, &[u8]) = (1000, &[0, 0, 1, 0, 7, 0, 0, 0, 3, 0, 0, 0, 0, 66, 0, 0]);
+pub const STACK: [(u64, &[u8]); 1] = [(1000, &[0, 0, 1, 0, 7, 0, 0, 0, 3, 0, 0, 0, 0, 66, 0, 0])];
+
+/// The module.
+pub const COMPILED_MODULE: Recorded = Recorded {
+    info: &INFO,
+    abbrev: &ABBREV,
+    loc: &[],
+    ranges: &[],
+    contents: &STACK,
+};
 
 /// One entry with an attribute of each form of version 4, whose attribute has the number of the
 /// form.
@@ -67,13 +77,22 @@ pub const TEXTS: [u8; 4] = [0x78, 0x79, 0x7A, 0x00];
 /// One entry with a name.
 pub const NAMED: [u8; 8] = [0x01, 0x11, 0x00, 0x03, 0x08, 0x00, 0x00, 0x00];
 
-/// A root, a base type, and a typedef by its distance from the unit.
-pub const CHAIN_ABBREV: [u8; 22] = [
+// A root, a base type, and a typedef by its distance from the unit.
+const CHAIN_ABBREV: [u8; 22] = [
     1, 17, 1, 0, 0, 2, 36, 0, 62, 11, 11, 11, 0, 0, 3, 22, 0, 73, 17, 0, 0, 0,
 ];
 
-/// 16 typedefs from offset 12 on, each of the next one, and `int` behind them.
-pub const CHAIN: [u8; 48] = [
+// 16 typedefs from offset 12 on, each of the next one, and `int` behind them.
+const CHAIN: [u8; 48] = [
     44, 0, 0, 0, 4, 0, 0, 0, 0, 0, 4, 1, 3, 14, 3, 16, 3, 18, 3, 20, 3, 22, 3, 24, 3, 26, 3, 28, 3,
     30, 3, 32, 3, 34, 3, 36, 3, 38, 3, 40, 3, 42, 3, 44, 2, 5, 4, 0,
 ];
+
+/// Chains of types.
+pub const CHAINS: Recorded = Recorded {
+    info: &CHAIN,
+    abbrev: &CHAIN_ABBREV,
+    loc: &[],
+    ranges: &[],
+    contents: &[],
+};

@@ -1,9 +1,11 @@
 //! Units by hand, as llvm-dwarfdump lists them, with addresses and what stands there.
 
-use crate::reading::{sections4, units4};
+use crate::recorded::{self, Recorded, Table};
+use causes::NoMemory;
 use dwarf_entries::Standing;
 use dwarf_info::{Sections5, Units};
 use dwarf_scopes::{inlined_at, scopes_at, variables_at};
+use pm_text::Items;
 use std::alloc::Global;
 
 const ABBREV: [u8; 102] = [
@@ -31,8 +33,16 @@ const RANGES: [u8; 28] = [
     2, 0, 0, 0, 6, 0, 0, 0, 40, 0, 0, 0, 44, 0, 0, 0, 0, 0, 0, 0, 0, 0, 0, 0, 1, 0, 0, 0,
 ];
 
-// An address, the scopes there, the variables, and the inlined subroutines, by their offsets.
-type Row = (u32, &'static [u32], &'static [u32], &'static [u32]);
+const MODULE: Recorded = Recorded {
+    info: &INFO,
+    abbrev: &ABBREV,
+    loc: &[],
+    ranges: &RANGES,
+    contents: &[],
+};
+
+/// An address, the scopes there, the variables, and the inlined subroutines, by their offsets.
+pub type Row = (u32, &'static [u32], &'static [u32], &'static [u32]);
 
 const ROWS: [Row; 7] = [
     (115, &[31, 41], &[40, 72, 47], &[]),
@@ -56,51 +66,41 @@ fn stand_at(standing: &[Standing<'_, '_>], offsets: &[u32]) -> bool {
     true
 }
 
-fn has_scopes<'a>(alloc: Global, sections: &Sections5<'a>, units: &Units<'a>, row: &Row) -> bool {
-    match scopes_at(alloc, sections, units.as_slice(), row.0) {
-        Ok(found) => stand_at(found.as_slice(), row.1),
+fn are_found(found: Result<Items<Standing<'_, '_>>, NoMemory>, offsets: &[u32]) -> bool {
+    match found {
+        Ok(found) => stand_at(found.as_slice(), offsets),
         Err(_) => false,
     }
 }
 
-fn has_variables<'a>(
+fn is_right<'a>(alloc: Global, sections: &Sections5<'a>, units: &Units<'a>, row: &Row) -> bool {
+    are_found(scopes_at(alloc, sections, units.as_slice(), row.0), row.1)
+        && are_found(
+            variables_at(alloc, sections, units.as_slice(), row.0),
+            row.2,
+        )
+        && are_found(inlined_at(alloc, sections, units.as_slice(), row.0), row.3)
+}
+
+/// The number of the first row where something else is found.
+pub fn first_wrong<'a>(
     alloc: Global,
     sections: &Sections5<'a>,
     units: &Units<'a>,
-    row: &Row,
-) -> bool {
-    match variables_at(alloc, sections, units.as_slice(), row.0) {
-        Ok(found) => stand_at(found.as_slice(), row.2),
-        Err(_) => false,
-    }
-}
-
-fn has_inlined<'a>(alloc: Global, sections: &Sections5<'a>, units: &Units<'a>, row: &Row) -> bool {
-    match inlined_at(alloc, sections, units.as_slice(), row.0) {
-        Ok(found) => stand_at(found.as_slice(), row.3),
-        Err(_) => false,
-    }
-}
-
-/// The number of the first row where something else is found, or how many rows there are.
-fn first_wrong(alloc: Global, units: &Option<Units<'_>>) -> usize {
-    let Some(units) = units else {
-        return 0;
-    };
-    let sections = sections4(&INFO, &ABBREV, &[], &RANGES);
-    for (i, row) in ROWS.iter().enumerate() {
-        if !has_scopes(alloc, &sections, units, row)
-            || !has_variables(alloc, &sections, units, row)
-            || !has_inlined(alloc, &sections, units, row)
-        {
-            return i;
+    rows: &[Row],
+) -> Option<usize> {
+    for (i, row) in rows.iter().enumerate() {
+        if !is_right(alloc, sections, units, row) {
+            return Some(i);
         }
     }
-    ROWS.len()
+    None
 }
+
+const TABLE: Table = Table::Scopes(&ROWS);
 
 #[test]
 fn scopes_are_found(rt: HostRuntime) {
-    let wrong = first_wrong(rt.alloc(), &units4(rt.alloc(), &INFO, &ABBREV, &[]));
-    assert_eq!(rt; wrong, ROWS.len());
+    let wrong = recorded::first_wrong(rt.alloc(), &MODULE, &TABLE);
+    assert_eq!(rt; wrong, None);
 }

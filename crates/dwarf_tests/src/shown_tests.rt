@@ -2,15 +2,14 @@
 //! where they are, by the constants that they are, and the marks in their places. The expected
 //! texts are from the standard's rules by hand.
 
-use crate::frames::memory_with;
-use crate::reading::{sections4, units4};
-use crate::samples::{self, STACK};
+use crate::recorded::{self, Recorded, Table};
+use crate::samples::COMPILED_MODULE;
 use causes::NoMemory;
 use dwarf_entries::standing_at;
 use dwarf_expr::FrameView;
-use dwarf_info::Units;
+use dwarf_info::Sections5;
 use dwarf_scopes::subprogram_at;
-use dwarf_types::{Arrays, Structures, TypedUnits};
+use dwarf_types::TypedUnits;
 use linear_memory::Memory;
 use pm_text::Text;
 use std::alloc::Global;
@@ -18,31 +17,25 @@ use var_eval::{Shown, VariableFrame, no_sources, push_variable, value_at, value_
 use var_path::parse_path;
 use wasm_syntax::Seen;
 
-// A module, and what is recorded of a frame in it.
-#[derive(Drop)]
+/// What is recorded of a frame.
 pub struct Scene {
-    pub info: &'static [u8],
-    pub abbrev: &'static [u8],
-    pub loc: &'static [u8],
     pub address: u32,
     pub locals: &'static [Seen],
     pub operands: &'static [Seen],
-    // How many operands a call under way has left.
+    /// How many operands a call under way has left.
     pub left: Option<u32>,
     pub globals: &'static [Seen],
-    // Bytes at an address of memory.
-    pub contents: (u64, &'static [u8]),
 }
 
-// What is asked for: the value behind a path, a variable as a listing has it, and the value of a
-// variable by the offset of its entry.
-#[derive(Clone, Copy)]
+/// What is asked for: the value behind a path, a variable as a listing has it, and the value of a
+/// variable by the offset of its entry.
 pub enum Asked {
     Path(&'static str),
     Listed(u32),
     Entry(u32),
 }
 
+/// What is asked for, and its text.
 pub type Row = (Asked, &'static str);
 
 fn by_path(
@@ -72,12 +65,12 @@ fn listed(
 fn shown(
     alloc: Global,
     frame: &VariableFrame<'_, '_, '_, '_, '_, '_>,
-    asked: Asked,
+    asked: &Asked,
 ) -> Result<Shown, NoMemory> {
     match asked {
         Asked::Path(path) => by_path(alloc, frame, path),
-        Asked::Listed(at) => listed(alloc, frame, at),
-        Asked::Entry(at) => value_at(alloc, frame, at),
+        Asked::Listed(at) => listed(alloc, frame, *at),
+        Asked::Entry(at) => value_at(alloc, frame, *at),
     }
 }
 
@@ -95,43 +88,37 @@ fn first_wrong_in(
     alloc: Global,
     frame: &VariableFrame<'_, '_, '_, '_, '_, '_>,
     rows: &[Row],
-) -> usize {
+) -> Option<usize> {
     for (i, (asked, text)) in rows.iter().enumerate() {
-        if !has_text(&shown(alloc, frame, *asked), text) {
-            return i;
+        if !has_text(&shown(alloc, frame, asked), text) {
+            return Some(i);
         }
     }
-    rows.len()
+    None
 }
 
-fn first_wrong_of(
+/// The number of the first row where something else is shown.
+pub fn first_wrong<'a>(
     alloc: Global,
-    scene: &Scene,
-    units: &Units<'_>,
+    sections: &Sections5<'a>,
+    types: TypedUnits<'_, '_, 'a>,
     memory: &Option<Memory>,
+    scene: &Scene,
     rows: &[Row],
-) -> usize {
-    let sections = sections4(scene.info, scene.abbrev, scene.loc, &[]);
+) -> Option<usize> {
     let view = FrameView {
         locals: scene.locals,
         operands: scene.operands,
         globals: scene.globals,
         memory: memory.as_ref(),
     };
-    let Ok(arrays) = Arrays::of(alloc, units) else {
-        return 0;
-    };
-    let Ok(structures) = Structures::of(alloc, units) else {
-        return 0;
-    };
-    let types = TypedUnits::with_structures(units, &arrays, &structures);
-    let found = subprogram_at(alloc, &sections, units.as_slice(), scene.address);
+    let found = subprogram_at(alloc, sections, types.units().as_slice(), scene.address);
     let Ok(subprogram) = found else {
-        return 0;
+        return Some(0);
     };
     match VariableFrame::new(
         alloc,
-        &sections,
+        sections,
         types,
         scene.address,
         subprogram,
@@ -139,30 +126,17 @@ fn first_wrong_of(
         scene.left,
     ) {
         Ok(frame) => first_wrong_in(alloc, &frame, rows),
-        Err(_) => 0,
+        Err(_) => Some(0),
     }
 }
 
-/// The number of the first row where something else is shown, or how many rows there are.
-pub fn first_wrong(alloc: Global, scene: &Scene, rows: &[Row]) -> usize {
-    let memory = memory_with(alloc, &[scene.contents]);
-    match units4(alloc, scene.info, scene.abbrev, &[]) {
-        Some(units) => first_wrong_of(alloc, scene, &units, &memory, rows),
-        None => 0,
-    }
-}
-
-// The compiled module, in which `p` points behind the memory.
+// A frame of the compiled module, in which `p` points behind the memory.
 const COMPILED: Scene = Scene {
-    info: &samples::INFO,
-    abbrev: &samples::ABBREV,
-    loc: &[],
     address: 45,
     locals: &[Seen::I32(65_536), Seen::I32(0), Seen::I32(992)],
     operands: &[Seen::I32(65_536)],
     left: None,
     globals: &[Seen::I32(992)],
-    contents: STACK,
 };
 
 const PRINTED: [Row; 19] = [
@@ -186,11 +160,6 @@ const PRINTED: [Row; 19] = [
     (Asked::Listed(58), "7"),
     (Asked::Listed(68), "{a = 3, b = {0, 66 'B', 0, 0}}"),
 ];
-
-#[test]
-fn variables_are_printed(rt: HostRuntime) {
-    assert_eq!(rt; first_wrong(rt.alloc(), &COMPILED, &PRINTED), PRINTED.len());
-}
 
 const ABBREV: [u8; 78] = [
     1, 17, 1, 17, 1, 0, 0, 2, 36, 0, 62, 11, 11, 11, 0, 0, 3, 46, 1, 17, 1, 18, 11, 64, 24, 0, 0,
@@ -222,16 +191,20 @@ const LOC: [u8; 39] = [
     48, 0, 0, 0, 0, 0, 0, 0, 0,
 ];
 
-const LOCATED: Scene = Scene {
+const LOCATED_MODULE: Recorded = Recorded {
     info: &INFO,
     abbrev: &ABBREV,
     loc: &LOC,
+    ranges: &[],
+    contents: &[(44, &[0x34, 0x12])],
+};
+
+const LOCATED: Scene = Scene {
     address: 110,
     locals: &[Seen::I32(40)],
     operands: &[],
     left: None,
     globals: &[],
-    contents: (44, &[0x34, 0x12]),
 };
 
 const SHOWN: [Row; 19] = [
@@ -256,11 +229,6 @@ const SHOWN: [Row; 19] = [
     (Asked::Entry(31), "no variable"),
 ];
 
-#[test]
-fn variables_are_shown(rt: HostRuntime) {
-    assert_eq!(rt; first_wrong(rt.alloc(), &LOCATED, &SHOWN), SHOWN.len());
-}
-
 // Variables of 2 bytes: at 30 one that is operand 0, at 37 operand 1, at 44 one whose address is in
 // operand 1.
 const OPERANDS: [u8; 52] = [
@@ -268,64 +236,88 @@ const OPERANDS: [u8; 52] = [
     159, 7, 16, 4, 237, 2, 0, 159, 7, 16, 4, 237, 2, 1, 159, 7, 16, 3, 237, 2, 1, 0, 0,
 ];
 
-fn called(operands: &'static [Seen], left: Option<u32>) -> Scene {
-    Scene {
-        info: &OPERANDS,
-        abbrev: &ABBREV,
-        loc: &[],
-        address: 110,
-        locals: &[Seen::I32(40)],
-        operands,
-        left,
-        globals: &[],
-        contents: (44, &[0x34, 0x12]),
-    }
-}
+const CALLING_MODULE: Recorded = Recorded {
+    info: &OPERANDS,
+    abbrev: &ABBREV,
+    loc: &[],
+    ranges: &[],
+    contents: &[(44, &[0x34, 0x12])],
+};
 
-// A call has taken operand 1, or both, or none; at the last one no operand is recorded.
-const TAKEN: [(&[Seen], Option<u32>, [Row; 3]); 4] = [
+// A call has taken operand 1.
+const ONE_TAKEN: Scene = Scene {
+    address: 110,
+    locals: &[Seen::I32(40)],
+    operands: &[Seen::I32(7)],
+    left: Some(1),
+    globals: &[],
+};
+
+const BEHIND_ONE: [Row; 3] = [
+    (Asked::Entry(30), "7"),
+    (Asked::Entry(37), "<optimised out>"),
+    (Asked::Entry(44), "<optimised out>"),
+];
+
+// A call has taken both.
+const BOTH_TAKEN: Scene = Scene {
+    address: 110,
+    locals: &[Seen::I32(40)],
+    operands: &[],
+    left: Some(0),
+    globals: &[],
+};
+
+const BEHIND_BOTH: [Row; 3] = [
+    (Asked::Entry(30), "<optimised out>"),
+    (Asked::Entry(37), "<optimised out>"),
+    (Asked::Entry(44), "<optimised out>"),
+];
+
+// A call has taken none.
+const NONE_TAKEN: Scene = Scene {
+    address: 110,
+    locals: &[Seen::I32(40)],
+    operands: &[Seen::I32(7), Seen::I32(44)],
+    left: None,
+    globals: &[],
+};
+
+const BEHIND_NONE: [Row; 3] = [
+    (Asked::Entry(30), "7"),
+    (Asked::Entry(37), "44"),
+    (Asked::Entry(44), "4660"),
+];
+
+// A call has left both, and no operand is recorded.
+const NONE_RECORDED: Scene = Scene {
+    address: 110,
+    locals: &[Seen::I32(40)],
+    operands: &[],
+    left: Some(2),
+    globals: &[],
+};
+
+const WITHOUT_RECORD: [Row; 3] = [
+    (Asked::Entry(30), "<not recorded>"),
+    (Asked::Entry(37), "<not recorded>"),
+    (Asked::Entry(44), "<not recorded>"),
+];
+
+// Variables of a compiled module, by their locations, and by operands that a call has taken.
+const TABLES: [(&Recorded, Table); 6] = [
+    (&COMPILED_MODULE, Table::Shown(&COMPILED, &PRINTED)),
+    (&LOCATED_MODULE, Table::Shown(&LOCATED, &SHOWN)),
+    (&CALLING_MODULE, Table::Shown(&ONE_TAKEN, &BEHIND_ONE)),
+    (&CALLING_MODULE, Table::Shown(&BOTH_TAKEN, &BEHIND_BOTH)),
+    (&CALLING_MODULE, Table::Shown(&NONE_TAKEN, &BEHIND_NONE)),
     (
-        &[Seen::I32(7)],
-        Some(1),
-        [
-            (Asked::Entry(30), "7"),
-            (Asked::Entry(37), "<optimised out>"),
-            (Asked::Entry(44), "<optimised out>"),
-        ],
-    ),
-    (
-        &[],
-        Some(0),
-        [
-            (Asked::Entry(30), "<optimised out>"),
-            (Asked::Entry(37), "<optimised out>"),
-            (Asked::Entry(44), "<optimised out>"),
-        ],
-    ),
-    (
-        &[Seen::I32(7), Seen::I32(44)],
-        None,
-        [
-            (Asked::Entry(30), "7"),
-            (Asked::Entry(37), "44"),
-            (Asked::Entry(44), "4660"),
-        ],
-    ),
-    (
-        &[],
-        Some(2),
-        [
-            (Asked::Entry(30), "<not recorded>"),
-            (Asked::Entry(37), "<not recorded>"),
-            (Asked::Entry(44), "<not recorded>"),
-        ],
+        &CALLING_MODULE,
+        Table::Shown(&NONE_RECORDED, &WITHOUT_RECORD),
     ),
 ];
 
 #[test]
-fn operands_that_a_call_has_taken_are_gone(rt: HostRuntime) {
-    for (operands, left, rows) in TAKEN {
-        let scene = called(operands, left);
-        assert_eq!(rt; first_wrong(rt.alloc(), &scene, &rows), rows.len());
-    }
+fn variables_are_shown(rt: HostRuntime) {
+    assert_eq!(rt; recorded::first_wrong_of(rt.alloc(), &TABLES), None);
 }

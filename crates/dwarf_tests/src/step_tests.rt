@@ -1,120 +1,89 @@
 //! Steps from variables, and the variable that a name means. The expected values are from the
 //! standard's rules by hand.
 
-use crate::frames::memory_with;
-use crate::reading::{sections4, units4};
-use crate::samples::{ABBREV, CHAIN, CHAIN_ABBREV, INFO, STACK};
+use crate::recorded::{self, Recorded, Table};
+use crate::samples::{CHAINS, COMPILED_MODULE, STACK};
 use dwarf_expr::{FrameView, PiecePlace};
-use dwarf_info::Units;
-use dwarf_types::{Arrays, TypedUnits, type_at};
-use linear_memory::Memory;
+use dwarf_info::{Sections5, Units};
+use dwarf_types::{TypedUnits, type_at};
 use std::alloc::Global;
 use var_eval::{Part, chosen, walk};
 use var_path::{Path, parse_path};
-use var_values::{Mark, Source};
+use var_values::Source;
 
-// Where a path leads.
-#[derive(Clone, Copy, PartialEq, Eq)]
-enum Reached {
-    // So many bytes behind an address.
-    At(u32, i128),
-    // The same, behind the end of an array.
-    Past(u32, i128),
-    // The number of the first bit, and how many bits.
-    Bits(u64, u64),
-    // A part that has no place.
-    Lost(Mark),
-    // A step does not fit.
-    Unfit(Mark),
-    // Something else.
-    Other,
-}
+/// Where a path leads: so many bytes behind an address, or the same behind the end of an array; the
+/// number of the first bit, and how many bits; a part that has no place, by the text of its mark
+/// and 1; a step that does not fit, by the text of its mark and 0; or something else.
+type Reached = (&'static str, u64, i128);
 
-// The offset of a type, the address of a value of it, a path from there, and where it leads.
-type Row = (u32, u32, &'static str, Reached);
+/// The offset of a type, the address of a value of it, a path from there, and where it leads.
+pub type Row = (u32, u32, &'static str, Reached);
+
+const OTHER: Reached = ("other", 0, 0);
 
 fn place_of(part: &Part<'_, '_, '_>) -> Reached {
     let place = part.place();
     match place.source {
         Source::Single(PiecePlace::Address(address)) => match place.bits {
-            Some(bits) => Reached::Bits(bits.first, bits.count),
-            None if part.is_past() => Reached::Past(*address, place.offset),
-            None => Reached::At(*address, place.offset),
+            Some(bits) => ("bits", bits.first, i128::from(bits.count)),
+            None if part.is_past() => ("past", u64::from(*address), place.offset),
+            None => ("at", u64::from(*address), place.offset),
         },
-        Source::Lost(mark) => Reached::Lost(*mark),
-        _ => Reached::Other,
+        Source::Lost(mark) => (mark.text(), 1, 0),
+        _ => OTHER,
     }
 }
 
 fn walked(
     alloc: Global,
-    units: &Units<'_>,
-    memory: &Option<Memory>,
+    types: &TypedUnits<'_, '_, '_>,
+    view: &FrameView<'_>,
     row: &Row,
     path: &Path<'_>,
 ) -> Reached {
-    let view = FrameView {
-        locals: &[],
-        operands: &[],
-        globals: &[],
-        memory: memory.as_ref(),
-    };
-    let Ok(arrays) = Arrays::of(alloc, units) else {
-        return Reached::Other;
-    };
-    let units = TypedUnits::new(units, &arrays);
-    let typed = type_at(&units, row.0);
+    let typed = type_at(types, row.0);
     let source = Source::Single(PiecePlace::Address(row.1));
-    match walk(alloc, &units, &view, path.steps.as_slice(), typed, source) {
+    match walk(alloc, types, view, path.steps.as_slice(), typed, source) {
         Ok(Ok(part)) => place_of(&part),
-        Ok(Err(mark)) => Reached::Unfit(mark),
-        Err(_) => Reached::Other,
+        Ok(Err(mark)) => (mark.text(), 0, 0),
+        Err(_) => OTHER,
     }
 }
 
-fn reaches(alloc: Global, units: &Units<'_>, memory: &Option<Memory>, row: &Row) -> bool {
+fn reaches(alloc: Global, types: &TypedUnits<'_, '_, '_>, view: &FrameView<'_>, row: &Row) -> bool {
     match parse_path(alloc, row.2) {
-        Ok(Some(path)) => walked(alloc, units, memory, row, &path) == row.3,
+        Ok(Some(path)) => walked(alloc, types, view, row, &path) == row.3,
         _ => false,
     }
 }
 
-fn first_wrong_of(
+/// The number of the first row that leads elsewhere.
+pub fn first_wrong(
     alloc: Global,
-    units: &Units<'_>,
-    memory: &Option<Memory>,
+    types: &TypedUnits<'_, '_, '_>,
+    view: &FrameView<'_>,
     rows: &[Row],
-) -> usize {
+) -> Option<usize> {
     for (i, row) in rows.iter().enumerate() {
-        if !reaches(alloc, units, memory, row) {
-            return i;
+        if !reaches(alloc, types, view, row) {
+            return Some(i);
         }
     }
-    rows.len()
+    None
 }
 
-/// The number of the first row that leads elsewhere, over the memory of the compiled module; or how
-/// many rows there are.
-fn first_wrong(alloc: Global, info: &[u8], abbrev: &[u8], rows: &[Row]) -> usize {
-    let memory = memory_with(alloc, &[STACK]);
-    match units4(alloc, info, abbrev, &[]) {
-        Some(units) => first_wrong_of(alloc, &units, &memory, rows),
-        None => 0,
-    }
-}
-
-const UNFIT: Reached = Reached::Unfit(Mark::UnsupportedType);
+const UNFIT: Reached = ("<unsupported type>", 0, 0);
 
 const COMPILED: [Row; 18] = [
-    (99, 1008, "s", Reached::At(1008, 0)),
-    (99, 1008, "s.a", Reached::At(1008, 0)),
-    (99, 1008, "s.b", Reached::At(1008, 4)),
-    (99, 1008, "s.b[1]", Reached::At(1008, 5)),
-    (99, 1008, "s.b[3]", Reached::At(1008, 7)),
-    (99, 1008, "s.b[4]", Reached::Past(1008, 8)),
-    (94, 1000, "*p", Reached::At(65_536, 0)),
-    (94, 1000, "p[2]", Reached::At(65_544, 0)),
-    (94, 1000, "p[2147483647]", Reached::At(65_532, 0)),
+    (99, 1008, "s", ("at", 1008, 0)),
+    (99, 1008, "s.a", ("at", 1008, 0)),
+    (99, 1008, "s.b", ("at", 1008, 4)),
+    (99, 1008, "s.b[1]", ("at", 1008, 5)),
+    (99, 1008, "s.b[3]", ("at", 1008, 7)),
+    (99, 1008, "s.b[4]", ("past", 1008, 8)),
+    (94, 1000, "*p", ("at", 65_536, 0)),
+    (94, 1000, "p[2]", ("at", 65_544, 0)),
+    (94, 1000, "p[2147483647]", ("at", 65_532, 0)),
     (94, 1000, "p.a", UNFIT),
     (94, 1000, "p->a", UNFIT),
     (94, 1000, "**p", UNFIT),
@@ -125,12 +94,6 @@ const COMPILED: [Row; 18] = [
     (99, 1008, "*s.b", UNFIT),
     (79, 1004, "x[0]", UNFIT),
 ];
-
-#[test]
-fn steps_in_a_compiled_module(rt: HostRuntime) {
-    let wrong = first_wrong(rt.alloc(), &INFO, &ABBREV, &COMPILED);
-    assert_eq!(rt; wrong, COMPILED.len());
-}
 
 const SHAPES_ABBREV: [u8; 109] = [
     1, 17, 1, 0, 0, 2, 36, 0, 62, 11, 11, 11, 0, 0, 3, 19, 1, 11, 7, 0, 0, 4, 13, 0, 3, 8, 73, 17,
@@ -152,19 +115,14 @@ const SHAPES: [u8; 82] = [
 ];
 
 const SHAPED: [Row; 32] = [
-    (15, 1000, "s.m", Reached::At(1000, -4)),
-    (
-        15,
-        1000,
-        "s.n[1]",
-        Reached::At(1000, 18_446_744_073_709_551_631),
-    ),
-    (15, 1000, "s.n[0].n[0].m", Reached::At(1000, 28)),
+    (15, 1000, "s.m", ("at", 1000, -4)),
+    (15, 1000, "s.n[1]", ("at", 1000, 18_446_744_073_709_551_631)),
+    (15, 1000, "s.n[0].n[0].m", ("at", 1000, 28)),
     (
         15,
         1000,
         "s.n[0].n[0].n[0].n[0].n[0].n[0].n[0].n[0].n[0].n[0].m",
-        Reached::At(1000, 156),
+        ("at", 1000, 156),
     ),
     (
         15,
@@ -176,23 +134,23 @@ const SHAPED: [Row; 32] = [
         15,
         1000,
         "s.n[2147483647].m",
-        Reached::At(1000, 39_614_081_238_685_424_720_914_939_917),
+        ("at", 1000, 39_614_081_238_685_424_720_914_939_917),
     ),
-    (15, 1000, "s.t.m", Reached::At(1000, -4)),
-    (63, 1000, "t.t.n", Reached::At(1000, 16)),
-    (56, 1000, "a[1]", Reached::At(1000, 12)),
-    (56, 1000, "a[2]", Reached::Past(1000, 24)),
-    (56, 1000, "a[1][2]", Reached::At(1000, 20)),
-    (56, 1000, "a[0][3]", Reached::Past(1000, 12)),
-    (56, 1000, "a[2][0]", Reached::Past(1000, 24)),
-    (65, 1000, "r->m", Reached::At(65_536, -4)),
-    (65, 1000, "(*r).m", Reached::At(65_536, -4)),
-    (67, 1000, "p[1].m", Reached::At(65_535, -4)),
-    (69, 1000, "v->m", Reached::At(65_536, -4)),
-    (71, 1000, "p[1]", Reached::At(65_560, 0)),
-    (71, 1000, "(*p)[1][1]", Reached::At(65_536, 16)),
-    (74, 1000, "r->m", Reached::At(65_536, -4)),
-    (76, 1000, "q[1]->m", Reached::At(7, -4)),
+    (15, 1000, "s.t.m", ("at", 1000, -4)),
+    (63, 1000, "t.t.n", ("at", 1000, 16)),
+    (56, 1000, "a[1]", ("at", 1000, 12)),
+    (56, 1000, "a[2]", ("past", 1000, 24)),
+    (56, 1000, "a[1][2]", ("at", 1000, 20)),
+    (56, 1000, "a[0][3]", ("past", 1000, 12)),
+    (56, 1000, "a[2][0]", ("past", 1000, 24)),
+    (65, 1000, "r->m", ("at", 65_536, -4)),
+    (65, 1000, "(*r).m", ("at", 65_536, -4)),
+    (67, 1000, "p[1].m", ("at", 65_535, -4)),
+    (69, 1000, "v->m", ("at", 65_536, -4)),
+    (71, 1000, "p[1]", ("at", 65_560, 0)),
+    (71, 1000, "(*p)[1][1]", ("at", 65_536, 16)),
+    (74, 1000, "r->m", ("at", 65_536, -4)),
+    (76, 1000, "q[1]->m", ("at", 7, -4)),
     (15, 1000, "s.o", UNFIT),
     (15, 1000, "s.b.m", UNFIT),
     (15, 1000, "s.b[0]", UNFIT),
@@ -201,28 +159,24 @@ const SHAPED: [Row; 32] = [
     (65, 1000, "r[0]", UNFIT),
     (65, 1000, "r.m", UNFIT),
     (73, 1000, "p[0]", UNFIT),
-    (15, 1000, "s.b", Reached::Bits(5, 3)),
-    (76, 1000, "q[2]->m", Reached::Lost(Mark::OutsideArray)),
-    (67, 65_533, "p->m", Reached::Lost(Mark::OutsideMemory)),
+    (15, 1000, "s.b", ("bits", 5, 3)),
+    (76, 1000, "q[2]->m", ("<outside array>", 1, 0)),
+    (67, 65_533, "p->m", ("<outside memory>", 1, 0)),
 ];
 
-#[test]
-fn steps_by_all_shapes_of_types(rt: HostRuntime) {
-    let wrong = first_wrong(rt.alloc(), &SHAPES, &SHAPES_ABBREV, &SHAPED);
-    assert_eq!(rt; wrong, SHAPED.len());
-}
+const SHAPED_MODULE: Recorded = Recorded {
+    info: &SHAPES,
+    abbrev: &SHAPES_ABBREV,
+    loc: &[],
+    ranges: &[],
+    contents: &STACK,
+};
 
 // A step meets 16 entries.
 const CHAINED: [Row; 2] = [
-    (12, 0, "x[0]", Reached::Unfit(Mark::TypeTooDeep)),
+    (12, 0, "x[0]", ("<type too deep>", 0, 0)),
     (14, 0, "x[0]", UNFIT),
 ];
-
-#[test]
-fn a_step_meets_sixteen_entries(rt: HostRuntime) {
-    let wrong = first_wrong(rt.alloc(), &CHAIN, &CHAIN_ABBREV, &CHAINED);
-    assert_eq!(rt; wrong, CHAINED.len());
-}
 
 const NAMES_ABBREV: [u8; 31] = [
     1, 17, 1, 0, 0, 2, 52, 0, 3, 8, 0, 0, 3, 46, 1, 17, 1, 18, 11, 0, 0, 4, 11, 1, 17, 1, 18, 11,
@@ -236,8 +190,16 @@ const NAMES: [u8; 48] = [
     121, 0, 4, 12, 0, 0, 0, 5, 2, 120, 0, 0, 0, 2, 119, 0, 2, 119, 0, 0,
 ];
 
-// An address, a name, and the offset of the entry of the variable that it means.
-type MeantRow = (u32, &'static [u8], Option<u32>);
+const NAMED_MODULE: Recorded = Recorded {
+    info: &NAMES,
+    abbrev: &NAMES_ABBREV,
+    loc: &[],
+    ranges: &[],
+    contents: &[],
+};
+
+/// An address, a name, and the offset of the entry of the variable that it means.
+pub type MeantRow = (u32, &'static [u8], Option<u32>);
 
 const MEANT: [MeantRow; 9] = [
     (13, b"x", Some(36)),
@@ -251,30 +213,43 @@ const MEANT: [MeantRow; 9] = [
     (9, b"x", None),
 ];
 
-fn is_meant(alloc: Global, units: &Units<'_>, row: &MeantRow) -> bool {
-    let sections = sections4(&NAMES, &NAMES_ABBREV, &[], &[]);
-    match chosen(alloc, &sections, units, row.0, row.1) {
+fn is_meant<'a>(
+    alloc: Global,
+    sections: &Sections5<'a>,
+    units: &Units<'a>,
+    row: &MeantRow,
+) -> bool {
+    match chosen(alloc, sections, units, row.0, row.1) {
         Ok(Some(standing)) => row.2 == Some(standing.entry().at),
         Ok(None) => row.2.is_none(),
         Err(_) => false,
     }
 }
 
-/// The number of the first row that means something else, or how many rows there are.
-fn first_other_meant(alloc: Global, units: &Option<Units<'_>>) -> usize {
-    let Some(units) = units else {
-        return 0;
-    };
-    for (i, row) in MEANT.iter().enumerate() {
-        if !is_meant(alloc, units, row) {
-            return i;
+/// The number of the first row whose name means something else.
+pub fn first_other<'a>(
+    alloc: Global,
+    sections: &Sections5<'a>,
+    units: &Units<'a>,
+    rows: &[MeantRow],
+) -> Option<usize> {
+    for (i, row) in rows.iter().enumerate() {
+        if !is_meant(alloc, sections, units, row) {
+            return Some(i);
         }
     }
-    MEANT.len()
+    None
 }
 
+// Steps in a compiled module, by all shapes of types and through chains, and names of variables.
+const TABLES: [(&Recorded, Table); 4] = [
+    (&COMPILED_MODULE, Table::Steps(&COMPILED)),
+    (&SHAPED_MODULE, Table::Steps(&SHAPED)),
+    (&CHAINS, Table::Steps(&CHAINED)),
+    (&NAMED_MODULE, Table::Meant(&MEANT)),
+];
+
 #[test]
-fn names_mean_variables(rt: HostRuntime) {
-    let wrong = first_other_meant(rt.alloc(), &units4(rt.alloc(), &NAMES, &NAMES_ABBREV, &[]));
-    assert_eq!(rt; wrong, MEANT.len());
+fn paths_lead_to_places(rt: HostRuntime) {
+    assert_eq!(rt; recorded::first_wrong_of(rt.alloc(), &TABLES), None);
 }

@@ -1,12 +1,10 @@
 //! Texts of values by types of each class, and the marks in them. The expected texts are from the
 //! standard's rules by hand.
 
-use crate::frames::{Origin, memory_with, source_of};
-use crate::reading::units4;
+use crate::frames::{Origin, source_of};
+use crate::recorded::{self, Recorded, Table};
 use dwarf_expr::FrameView;
-use dwarf_info::Units;
-use dwarf_types::{Arrays, Structures, TypedUnits, type_at};
-use linear_memory::Memory;
+use dwarf_types::{TypedUnits, type_at};
 use pm_text::Text;
 use std::alloc::Global;
 use var_values::{Place, push_value};
@@ -43,8 +41,8 @@ const INFO: [u8; 250] = [
     10, 0, 10, 0, 10, 0, 10, 0, 10, 0, 10, 0, 18, 105, 0, 12, 0, 0, 0,
 ];
 
-// The offset of a type, where a value comes from, and its text.
-type Row = (u32, Origin, &'static str);
+/// The offset of a type, where a value comes from, and its text.
+pub type Row = (u32, Origin, &'static str);
 
 const ROWS: [Row; 27] = [
     (
@@ -117,69 +115,64 @@ const ROWS: [Row; 27] = [
     ),
 ];
 
-// 17 bytes at 16, and a number at the end of the page.
-const CONTENTS: [(u64, &[u8]); 2] = [
-    (
-        16,
-        &[
-            0x00, 0x11, 0x22, 0x33, 0x44, 0x55, 0x66, 0x77, 0x88, 0x99, 0xaa, 0xbb, 0xcc, 0xdd,
-            0xee, 0xff, 0x0a,
-        ],
-    ),
-    (65_532, &[5]),
-];
+// In memory stand 17 bytes at 16, and a number at the end of the page.
+const MODULE: Recorded = Recorded {
+    info: &INFO,
+    abbrev: &ABBREV,
+    loc: &[],
+    ranges: &[],
+    contents: &[
+        (
+            16,
+            &[
+                0x00, 0x11, 0x22, 0x33, 0x44, 0x55, 0x66, 0x77, 0x88, 0x99, 0xaa, 0xbb, 0xcc, 0xdd,
+                0xee, 0xff, 0x0a,
+            ],
+        ),
+        (65_532, &[5]),
+    ],
+};
 
-fn has_text(alloc: Global, units: &Units<'_>, memory: &Option<Memory>, row: &Row) -> bool {
-    let Ok(arrays) = Arrays::of(alloc, units) else {
-        return false;
-    };
-    let Ok(structures) = Structures::of(alloc, units) else {
-        return false;
-    };
-    let units = TypedUnits::with_structures(units, &arrays, &structures);
-    let view = FrameView {
-        locals: &[],
-        operands: &[],
-        globals: &[],
-        memory: memory.as_ref(),
-    };
-    let source = source_of(row.1);
+fn has_text(
+    alloc: Global,
+    types: &TypedUnits<'_, '_, '_>,
+    view: &FrameView<'_>,
+    row: &Row,
+) -> bool {
+    let source = source_of(&row.1);
     let place = Place {
         source: &source,
         offset: 0,
         bits: None,
     };
+    let typed = type_at(types, row.0);
     let mut text = Text::new(alloc);
-    match push_value(
-        alloc,
-        &mut text,
-        &units,
-        &view,
-        &type_at(&units, row.0),
-        &place,
-    ) {
+    match push_value(alloc, &mut text, types, view, &typed, &place) {
         Ok(Some(mark)) => text.is_empty() && mark.text() == row.2,
         Ok(None) => text.as_str() == row.2,
         Err(_) => false,
     }
 }
 
-/// The number of the first row with another text, or how many rows there are.
-fn first_wrong(alloc: Global, units: &Option<Units<'_>>) -> usize {
-    let Some(units) = units else {
-        return 0;
-    };
-    let memory = memory_with(alloc, &CONTENTS);
-    for (i, row) in ROWS.iter().enumerate() {
-        if !has_text(alloc, units, &memory, row) {
-            return i;
+/// The number of the first row with another text.
+pub fn first_wrong(
+    alloc: Global,
+    types: &TypedUnits<'_, '_, '_>,
+    view: &FrameView<'_>,
+    rows: &[Row],
+) -> Option<usize> {
+    for (i, row) in rows.iter().enumerate() {
+        if !has_text(alloc, types, view, row) {
+            return Some(i);
         }
     }
-    ROWS.len()
+    None
 }
+
+const TABLE: Table = Table::Texts(&ROWS);
 
 #[test]
 fn values_have_texts(rt: HostRuntime) {
-    let wrong = first_wrong(rt.alloc(), &units4(rt.alloc(), &INFO, &ABBREV, &[]));
-    assert_eq!(rt; wrong, ROWS.len());
+    let wrong = recorded::first_wrong(rt.alloc(), &MODULE, &TABLE);
+    assert_eq!(rt; wrong, None);
 }

@@ -1,73 +1,34 @@
 //! Kinds and sizes of types: those of a compiled module, chains of other names, and arrays by their
 //! counts. The expected values are from the standard's rules by hand.
 
-use crate::reading::units4;
-use crate::samples::{ABBREV, CHAIN, CHAIN_ABBREV, INFO};
-use dwarf_info::Units;
-use dwarf_types::{Arrays, Kind, TypedUnits, kind_of, size_of};
-use std::alloc::Global;
+use crate::recorded::{self, Recorded, Table};
+use crate::samples::{CHAINS, COMPILED_MODULE};
+use dwarf_types::{Kind, TypedUnits, kind_of, size_of};
 
-// An offset, the kind of the type there, and its size.
-type Row = (u32, Kind, Option<u64>);
+/// An offset, the kind of the type there if it is told, and its size.
+pub type Row = (u32, Option<Kind>, Option<u64>);
 
 const COMPILED: [Row; 6] = [
-    (79, Kind::Base { encoding: 5 }, Some(4)),
-    (86, Kind::Base { encoding: 6 }, Some(1)),
-    (94, Kind::Pointer { to: Some(79) }, Some(4)),
-    (99, Kind::Members { at: 99 }, Some(8)),
+    (79, Some(Kind::Base { encoding: 5 }), Some(4)),
+    (86, Some(Kind::Base { encoding: 6 }), Some(1)),
+    (94, Some(Kind::Pointer { to: Some(79) }), Some(4)),
+    (99, Some(Kind::Members { at: 99 }), Some(8)),
     (
         120,
-        Kind::Array {
+        Some(Kind::Array {
             at: 120,
             element: Some(86),
-        },
+        }),
         Some(4),
     ),
-    (96, Kind::Unsupported, None),
+    (96, Some(Kind::Unsupported), None),
 ];
 
 // The first of 17 entries and the second.
 const CHAINED: [Row; 2] = [
-    (12, Kind::TooDeep, None),
-    (14, Kind::Base { encoding: 5 }, Some(4)),
+    (12, Some(Kind::TooDeep), None),
+    (14, Some(Kind::Base { encoding: 5 }), Some(4)),
 ];
-
-/// The number of the first row with another kind or size, or how many rows there are.
-fn first_other_type(alloc: Global, units: &Option<Units<'_>>, rows: &[Row]) -> usize {
-    let Some(units) = units else {
-        return 0;
-    };
-    let Ok(arrays) = Arrays::of(alloc, units) else {
-        return 0;
-    };
-    let units = TypedUnits::new(units, &arrays);
-    for (i, (at, kind, size)) in rows.iter().enumerate() {
-        if kind_of(&units, *at) != *kind || size_of(&units, *at) != *size {
-            return i;
-        }
-    }
-    rows.len()
-}
-
-#[test]
-fn types_of_a_module_are_known(rt: HostRuntime) {
-    let wrong = first_other_type(
-        rt.alloc(),
-        &units4(rt.alloc(), &INFO, &ABBREV, &[]),
-        &COMPILED,
-    );
-    assert_eq!(rt; wrong, COMPILED.len());
-}
-
-#[test]
-fn chains_have_sixteen_entries(rt: HostRuntime) {
-    let wrong = first_other_type(
-        rt.alloc(),
-        &units4(rt.alloc(), &CHAIN, &CHAIN_ABBREV, &[]),
-        &CHAINED,
-    );
-    assert_eq!(rt; wrong, CHAINED.len());
-}
 
 const ARRAY_ABBREV: [u8; 60] = [
     1, 17, 1, 0, 0, 2, 36, 0, 62, 11, 11, 11, 0, 0, 3, 1, 1, 73, 17, 0, 0, 4, 33, 0, 55, 15, 0, 0,
@@ -77,7 +38,7 @@ const ARRAY_ABBREV: [u8; 60] = [
 
 // `int`, arrays of it with subranges by count or upper bound, one without subranges, an enumeration
 // and a pointer.
-const ARRAYS: [u8; 117] = [
+const ARRAY_INFO: [u8; 117] = [
     113, 0, 0, 0, 4, 0, 0, 0, 0, 0, 4, 1, 2, 5, 4, 3, 12, 4, 2, 5, 2, 0, 3, 12, 6, 0, 3, 12, 4,
     128, 128, 128, 128, 128, 32, 4, 128, 128, 128, 128, 128, 32, 0, 3, 12, 5, 127, 0, 3, 12, 5,
     126, 0, 3, 12, 4, 128, 128, 128, 128, 128, 128, 128, 128, 64, 0, 3, 12, 4, 255, 255, 255, 255,
@@ -85,43 +46,59 @@ const ARRAYS: [u8; 117] = [
     3, 12, 4, 128, 128, 128, 128, 128, 128, 128, 128, 128, 1, 4, 0, 0, 8, 12, 7, 12, 9, 0,
 ];
 
-// An offset, and the size of the type there.
-const SIZES: [(u32, Option<u64>); 14] = [
-    (12, Some(4)),
-    (15, Some(24)),
-    (22, None),
-    (26, None),
-    (43, Some(0)),
-    (48, None),
-    (53, None),
-    (66, Some(18_446_744_073_709_551_612)),
-    (79, None),
-    (95, Some(0)),
-    (111, None),
-    (113, Some(4)),
-    (115, Some(4)),
-    (116, None),
+const ARRAYS: Recorded = Recorded {
+    info: &ARRAY_INFO,
+    abbrev: &ARRAY_ABBREV,
+    loc: &[],
+    ranges: &[],
+    contents: &[],
+};
+
+const SIZES: [Row; 14] = [
+    (12, None, Some(4)),
+    (15, None, Some(24)),
+    (22, None, None),
+    (26, None, None),
+    (43, None, Some(0)),
+    (48, None, None),
+    (53, None, None),
+    (66, None, Some(18_446_744_073_709_551_612)),
+    (79, None, None),
+    (95, None, Some(0)),
+    (111, None, None),
+    (113, None, Some(4)),
+    (115, None, Some(4)),
+    (116, None, None),
 ];
 
-/// The number of the first row with another size, or how many rows there are.
-fn first_other_size(alloc: Global, units: &Option<Units<'_>>) -> usize {
-    let Some(units) = units else {
-        return 0;
-    };
-    let Ok(arrays) = Arrays::of(alloc, units) else {
-        return 0;
-    };
-    let units = TypedUnits::new(units, &arrays);
-    for (i, (at, size)) in SIZES.iter().enumerate() {
-        if size_of(&units, *at) != *size {
-            return i;
-        }
+fn is_type(types: &TypedUnits<'_, '_, '_>, row: &Row) -> bool {
+    if size_of(types, row.0) != row.2 {
+        return false;
     }
-    SIZES.len()
+    match row.1 {
+        Some(kind) => kind_of(types, row.0) == kind,
+        None => true,
+    }
 }
 
+/// The number of the first row with another kind or size.
+pub fn first_wrong(types: &TypedUnits<'_, '_, '_>, rows: &[Row]) -> Option<usize> {
+    for (i, row) in rows.iter().enumerate() {
+        if !is_type(types, row) {
+            return Some(i);
+        }
+    }
+    None
+}
+
+// Types of a module, chains of at most 16 entries, and arrays, whose sizes are products.
+const TABLES: [(&Recorded, Table); 3] = [
+    (&COMPILED_MODULE, Table::Types(&COMPILED)),
+    (&CHAINS, Table::Types(&CHAINED)),
+    (&ARRAYS, Table::Types(&SIZES)),
+];
+
 #[test]
-fn sizes_are_products(rt: HostRuntime) {
-    let wrong = first_other_size(rt.alloc(), &units4(rt.alloc(), &ARRAYS, &ARRAY_ABBREV, &[]));
-    assert_eq!(rt; wrong, SIZES.len());
+fn types_are_known(rt: HostRuntime) {
+    assert_eq!(rt; recorded::first_wrong_of(rt.alloc(), &TABLES), None);
 }

@@ -1,7 +1,8 @@
 //! Units by hand and the unit of a compiled module, with what another reader finds in them.
 
-use crate::reading::{EntryRow, Sample, is_read5, is_unreadable5};
+use crate::reading::{EntryRow, Sample, UNREADABLE, UnitRow, are_read5, is_read5};
 use crate::samples::{ABBREV as COMPILED_ABBREV, NAMED};
+use std::alloc::Global;
 
 const TEXTS: [u8; 5] = [0x78, 0x00, 0x79, 0x7A, 0x00];
 
@@ -154,9 +155,7 @@ const SAMPLES: [Sample<'static>; 6] = [
 
 #[test]
 fn units_are_read(rt: HostRuntime) {
-    for sample in &SAMPLES {
-        assert!(rt; is_read5(rt.alloc(), sample), "{} bytes", sample.info.len());
-    }
+    assert!(rt; are_read5(rt.alloc(), &SAMPLES));
 }
 
 // Units without a reading: a type unit, an implicit value in version 4, one behind indirect, no
@@ -223,45 +222,36 @@ const REFUSED: [(&[u8], &[u8]); 8] = [
     ),
 ];
 
-#[test]
-fn other_units_are_refused(rt: HostRuntime) {
-    for (info, abbrev) in &REFUSED {
-        assert!(rt;
-            is_unreadable5(rt.alloc(), info, abbrev, &TEXTS),
-            "{} bytes",
-            info.len()
-        );
-    }
-}
-
 // How many bytes are left of MIXED, where the first unit is cut.
 const CUT_FIRST: [usize; 6] = [1, 3, 4, 6, 12, 14];
 
 // The same, where the second one is.
 const CUT_SECOND: [usize; 6] = [16, 18, 19, 21, 26, 28];
 
-fn cut_second(info: &[u8]) -> Sample<'_> {
-    Sample {
-        info,
-        abbrev: &NAMED,
-        str: &[],
-        units: &[(0, Some(5)), (15, None)],
-        entries: FIRST,
+const SECOND_UNREADABLE: &[UnitRow] = &[(0, Some(5)), (15, None)];
+
+fn are_unreadable(alloc: Global, rows: &[(&[u8], &[u8])]) -> bool {
+    for (info, abbrev) in rows {
+        if !is_read5(alloc, info, abbrev, &TEXTS, UNREADABLE, &[]) {
+            return false;
+        }
     }
+    true
+}
+
+/// MIXED has these units, where so many bytes are left of it.
+fn is_cut(alloc: Global, lengths: &[usize], units: &[UnitRow], entries: &[EntryRow<'_>]) -> bool {
+    for len in lengths {
+        if *len > MIXED.len() || !is_read5(alloc, &MIXED[..*len], &NAMED, &[], units, entries) {
+            return false;
+        }
+    }
+    true
 }
 
 #[test]
-fn a_unit_that_is_cut_is_unreadable_where_it_stands(rt: HostRuntime) {
-    for len in CUT_FIRST {
-        assert!(rt;
-            len <= MIXED.len() && is_unreadable5(rt.alloc(), &MIXED[..len], &NAMED, &[]),
-            "{len}"
-        );
-    }
-    for len in CUT_SECOND {
-        assert!(rt;
-            len <= MIXED.len() && is_read5(rt.alloc(), &cut_second(&MIXED[..len])),
-            "{len}"
-        );
-    }
+fn other_units_are_refused(rt: HostRuntime) {
+    assert!(rt; are_unreadable(rt.alloc(), &REFUSED));
+    assert!(rt; is_cut(rt.alloc(), &CUT_FIRST, UNREADABLE, &[]));
+    assert!(rt; is_cut(rt.alloc(), &CUT_SECOND, SECOND_UNREADABLE, FIRST));
 }

@@ -1,9 +1,10 @@
 //! The units of a module as a C compiler writes them, the same cut short, and each form once. The
 //! expected values are from the standard's tables and another reader.
 
-use crate::reading::{EntryRow, Sample, is_read4, units4};
+use crate::reading::{EntryRow, Sample, UNREADABLE, is_read4, units4};
 use crate::samples::{ABBREV, ENTRIES, FORMS, INFO, NAMED, TEXTS};
 use dwarf_info::{EntryPlace, Units};
+use std::alloc::Global;
 
 // The values of all forms in the same order, and two bytes of padding.
 const VALUES: [u8; 92] = [
@@ -80,34 +81,30 @@ const SAMPLES: [Sample<'static>; 3] = [
     },
 ];
 
-#[test]
-fn units_are_read(rt: HostRuntime) {
-    for sample in &SAMPLES {
-        assert!(rt; is_read4(rt.alloc(), sample), "{} bytes", sample.info.len());
-    }
-}
-
-// How many bytes are left of the section.
+// How many bytes are left of the section of the module, where its unit is cut.
 const CUT: [usize; 8] = [1, 3, 4, 10, 11, 60, 125, 128];
 
-fn is_cut(info: &[u8]) -> Sample<'_> {
-    Sample {
-        info,
-        abbrev: &ABBREV,
-        str: &[],
-        units: &[(0, None)],
-        entries: &[],
+fn are_read(alloc: Global, samples: &[Sample<'_>]) -> bool {
+    for s in samples {
+        if !is_read4(alloc, s.info, s.abbrev, s.str, s.units, s.entries) {
+            return false;
+        }
     }
+    true
+}
+
+fn is_cut(alloc: Global, lengths: &[usize]) -> bool {
+    for len in lengths {
+        if *len > INFO.len() || !is_read4(alloc, &INFO[..*len], &ABBREV, &[], UNREADABLE, &[]) {
+            return false;
+        }
+    }
+    true
 }
 
 #[test]
-fn a_unit_that_is_cut_is_unreadable(rt: HostRuntime) {
-    for len in CUT {
-        assert!(rt;
-            len <= INFO.len() && is_read4(rt.alloc(), &is_cut(&INFO[..len])),
-            "{len}"
-        );
-    }
+fn units_are_read(rt: HostRuntime) {
+    assert!(rt; are_read(rt.alloc(), &SAMPLES) && is_cut(rt.alloc(), &CUT));
 }
 
 // An offset of the section, and the place of the entry there.
@@ -126,23 +123,29 @@ const PLACES_OF_TWO: [(u32, Option<EntryPlace>); 2] = [
     (26, Some(EntryPlace { unit: 1, entry: 0 })),
 ];
 
-/// The number of the first row whose entry stands elsewhere, or how many rows there are.
-fn first_misplaced(units: &Option<Units<'_>>, rows: &[(u32, Option<EntryPlace>)]) -> usize {
-    let Some(units) = units else {
-        return 0;
-    };
-    for (i, (at, place)) in rows.iter().enumerate() {
+fn are_placed_in(units: &Units<'_>, rows: &[(u32, Option<EntryPlace>)]) -> bool {
+    for (at, place) in rows {
         if units.place_of(*at) != *place {
-            return i;
+            return false;
         }
     }
-    rows.len()
+    true
+}
+
+fn are_placed(
+    alloc: Global,
+    info: &[u8],
+    abbrev: &[u8],
+    rows: &[(u32, Option<EntryPlace>)],
+) -> bool {
+    match units4(alloc, info, abbrev, &[]) {
+        Some(units) => are_placed_in(&units, rows),
+        None => false,
+    }
 }
 
 #[test]
 fn entries_are_found_by_their_offsets(rt: HostRuntime) {
-    let wrong = first_misplaced(&units4(rt.alloc(), &INFO, &ABBREV, &[]), &PLACES);
-    assert_eq!(rt; wrong, PLACES.len());
-    let wrong = first_misplaced(&units4(rt.alloc(), &TWO, &NAMED, &[]), &PLACES_OF_TWO);
-    assert_eq!(rt; wrong, PLACES_OF_TWO.len());
+    assert!(rt; are_placed(rt.alloc(), &INFO, &ABBREV, &PLACES));
+    assert!(rt; are_placed(rt.alloc(), &TWO, &NAMED, &PLACES_OF_TWO));
 }

@@ -2,21 +2,20 @@
 //! values are by hand.
 
 use crate::frames::{Origin, source_of};
-use crate::reading::{sections4, units4};
-use crate::samples::{ABBREV, INFO};
+use crate::recorded::{self, Recorded, Table};
+use crate::samples::COMPILED_MODULE;
 use dwarf_expr::FrameView;
-use dwarf_info::Units;
-use dwarf_types::{Arrays, Structures, Typed, TypedUnits, type_at};
+use dwarf_info::{Sections5, Units};
+use dwarf_types::{Typed, TypedUnits, type_at};
 use pm_text::Text;
 use std::alloc::Global;
 use var_eval::{Variable, visible};
 use var_values::{Mark, number_at, push_base, push_enumeration};
 
-// An address, and the names of the variables there with the offsets of their entries.
-const VISIBLE: [(u32, &[(&[u8], u32)]); 2] = [
-    (45, &[(b"p", 48), (b"x", 58), (b"s", 68)]),
-    (49, &[]),
-];
+/// An address, and the names of the variables there with the offsets of their entries.
+pub type VisibleRow = (u32, &'static [(&'static [u8], u32)]);
+
+const VISIBLE: [VisibleRow; 2] = [(45, &[(b"p", 48), (b"x", 58), (b"s", 68)]), (49, &[])];
 
 fn are_variables(variables: &[Variable<'_>], rows: &[(&[u8], u32)]) -> bool {
     if variables.len() != rows.len() {
@@ -30,21 +29,31 @@ fn are_variables(variables: &[Variable<'_>], rows: &[(&[u8], u32)]) -> bool {
     true
 }
 
-fn are_visible(alloc: Global, address: u32, rows: &[(&[u8], u32)]) -> bool {
-    let Some(units) = units4(alloc, &INFO, &ABBREV, &[]) else {
-        return false;
-    };
-    match visible(alloc, &sections4(&INFO, &ABBREV, &[], &[]), &units, address) {
-        Ok(variables) => are_variables(variables.as_slice(), rows),
+fn are_visible<'a>(
+    alloc: Global,
+    sections: &Sections5<'a>,
+    units: &Units<'a>,
+    row: &VisibleRow,
+) -> bool {
+    match visible(alloc, sections, units, row.0) {
+        Ok(variables) => are_variables(variables.as_slice(), row.1),
         Err(_) => false,
     }
 }
 
-#[test]
-fn parameters_and_variables_are_visible(rt: HostRuntime) {
-    for (address, rows) in &VISIBLE {
-        assert!(rt; are_visible(rt.alloc(), *address, rows), "{address}");
+/// The number of the first row where other variables are visible.
+pub fn first_unseen<'a>(
+    alloc: Global,
+    sections: &Sections5<'a>,
+    units: &Units<'a>,
+    rows: &[VisibleRow],
+) -> Option<usize> {
+    for (i, row) in rows.iter().enumerate() {
+        if !are_visible(alloc, sections, units, row) {
+            return Some(i);
+        }
     }
+    None
 }
 
 // An encoding, a size, the bits, the number that they are, and the text.
@@ -81,7 +90,7 @@ fn has_text(alloc: Global, row: &TextRow) -> bool {
 #[test]
 fn base_types_have_texts(rt: HostRuntime) {
     for row in &TEXTS {
-        assert!(rt; has_text(rt.alloc(), row), "{}", row.4);
+        assert!(rt; has_text(rt.alloc(), row));
     }
 }
 
@@ -98,8 +107,18 @@ const ENUMERATION: [u8; 103] = [
     0, 0, 3, 120, 0, 0, 3, 97, 0, 1, 3, 98, 0, 0x7f, 3, 99, 0, 1, 0, 0,
 ];
 
-// The offset of an enumeration, a value, and its name.
-const NAMES: [(u32, i128, &str); 7] = [
+const ENUMERATIONS: Recorded = Recorded {
+    info: &ENUMERATION,
+    abbrev: &ENUMERATION_ABBREV,
+    loc: &[],
+    ranges: &[],
+    contents: &[],
+};
+
+/// The offset of an enumeration, a value, and its name.
+pub type NameRow = (u32, i128, &'static str);
+
+const NAMES: [NameRow; 7] = [
     (12, 1, "a"),
     (12, -1, "b"),
     (12, 7, "7"),
@@ -109,34 +128,42 @@ const NAMES: [(u32, i128, &str); 7] = [
     (27, 7, "7"),
 ];
 
-fn has_name(alloc: Global, units: &Option<Units<'_>>, row: &(u32, i128, &str)) -> bool {
-    let Some(units) = units else {
-        return false;
-    };
-    let Ok(arrays) = Arrays::of(alloc, units) else {
-        return false;
-    };
-    let Ok(structures) = Structures::of(alloc, units) else {
-        return false;
-    };
-    let types = TypedUnits::with_structures(units, &arrays, &structures);
+fn has_name(alloc: Global, types: &TypedUnits<'_, '_, '_>, row: &NameRow) -> bool {
     let Typed::At {
         standing,
         skipped: _,
-    } = type_at(&types, row.0)
+    } = type_at(types, row.0)
     else {
         return false;
     };
     let mut text = Text::new(alloc);
-    push_enumeration(&mut text, units, &standing, 4, row.1).is_ok() && text.as_str() == row.2
+    push_enumeration(&mut text, types.units(), &standing, 4, row.1).is_ok()
+        && text.as_str() == row.2
 }
 
-#[test]
-fn enumerators_have_names(rt: HostRuntime) {
-    for row in &NAMES {
-        let units = units4(rt.alloc(), &ENUMERATION, &ENUMERATION_ABBREV, &[]);
-        assert!(rt; has_name(rt.alloc(), &units, row), "{}", row.2);
+/// The number of the first row with another name.
+pub fn first_unnamed(
+    alloc: Global,
+    types: &TypedUnits<'_, '_, '_>,
+    rows: &[NameRow],
+) -> Option<usize> {
+    for (i, row) in rows.iter().enumerate() {
+        if !has_name(alloc, types, row) {
+            return Some(i);
+        }
     }
+    None
+}
+
+// Visible parameters and variables, and names of enumerators.
+const TABLES: [(&Recorded, Table); 2] = [
+    (&COMPILED_MODULE, Table::Visible(&VISIBLE)),
+    (&ENUMERATIONS, Table::Names(&NAMES)),
+];
+
+#[test]
+fn variables_are_visible_and_enumerators_have_names(rt: HostRuntime) {
+    assert_eq!(rt; recorded::first_wrong_of(rt.alloc(), &TABLES), None);
 }
 
 // Where a value comes from, the number of its first byte, how many bytes, and the number that they
@@ -161,13 +188,13 @@ fn is_number(row: &NumberRow) -> bool {
         globals: &[],
         memory: None,
     };
-    row.1 <= 8 && row.2 <= 8 && number_at(&view, &source_of(row.0), row.1, row.2) == row.3
+    row.1 <= 8 && row.2 <= 8 && number_at(&view, &source_of(&row.0), row.1, row.2) == row.3
 }
 
 #[test]
 fn bytes_of_values_have_marks(rt: HostRuntime) {
     for row in &NUMBERS {
-        assert!(rt; is_number(row), "{} {}", row.1, row.2);
+        assert!(rt; is_number(row));
     }
     assert!(rt; Mark::OutsideMemory.text() == "<outside memory>");
 }

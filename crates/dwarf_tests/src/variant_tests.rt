@@ -1,7 +1,8 @@
 //! Structures with variant parts, as Rust has them of its enums. The expected texts are from the
 //! standard's rules by hand.
 
-use crate::shown_tests::{Asked, Row, Scene, first_wrong};
+use crate::recorded::{self, Recorded, Table};
+use crate::shown_tests::{Asked, Row, Scene};
 
 const ABBREV: [u8; 102] = [
     1, 17, 1, 17, 1, 0, 0, 2, 36, 0, 62, 11, 11, 11, 0, 0, 3, 46, 1, 17, 1, 18, 11, 0, 0, 4, 52, 0,
@@ -34,23 +35,27 @@ const INFO: [u8; 370] = [
     3, 92, 0, 0, 0, 0, 0,
 ];
 
-const ENUMS: Scene = Scene {
+const MODULE: Recorded = Recorded {
     info: &INFO,
     abbrev: &ABBREV,
     loc: &[],
-    address: 110,
-    locals: &[],
-    operands: &[],
-    left: None,
-    globals: &[],
-    contents: (
+    ranges: &[],
+    contents: &[(
         40,
         &[
             1, 0, 0, 0, 5, 0, 0, 0, 0, 0, 0, 0, 0, 0, 0, 0, 7, 0, 0, 0, 0, 0, 0, 0, 0xff, 10, 11,
             12, 5, 10, 11, 12, 5, 11, 1, 12, 200, 13, 0, 0, 4, 0, 0, 0, 9, 14, 2, 0, 0xfe, 15,
             0xfc, 16, 17,
         ],
-    ),
+    )],
+};
+
+const ENUMS: Scene = Scene {
+    address: 110,
+    locals: &[],
+    operands: &[],
+    left: None,
+    globals: &[],
 };
 
 const VARIANTS: [Row; 21] = [
@@ -77,7 +82,10 @@ const VARIANTS: [Row; 21] = [
     (Asked::Path("lc.few"), "<unsupported type>"),
 ];
 
+const TABLE: Table = Table::Shown(&ENUMS, &VARIANTS);
+
 #[test]
 fn the_discriminant_chooses_a_variant(rt: HostRuntime) {
-    assert_eq!(rt; first_wrong(rt.alloc(), &ENUMS, &VARIANTS), VARIANTS.len());
+    let wrong = recorded::first_wrong(rt.alloc(), &MODULE, &TABLE);
+    assert_eq!(rt; wrong, None);
 }
