@@ -1,19 +1,16 @@
 //! Locals that are worked out where a frame is left, found in a body and written out by hand.
 
 ghost use Rattle.std.specs.Prelude.{◌≡◌, []};
-ghost use Rattle.wasm_format_laws.specs.calls.Sized.{Sized};
 
 use crate::code_tests::is_written;
-use crate::modules::valid;
+use crate::modules::{Asked, is_so};
 use causes::NoMemory;
-use index_map::IndexMap;
 use operand_spill::{derivations, exposed};
 use pm_text::Items;
-use rewrite_code::{CodeWriter, Derivation, FunctionContext, Landings, Offsets};
+use rewrite_code::{CodeWriter, Derivation, FunctionContext, Offsets};
 use std::alloc::Global;
 use unwind_rewrite::{close_body, open_body};
 use wasm_syntax::{Basic, Binary, Instr, Jump, ModuleParts, ValType, Value};
-use wasm_validate::Validated;
 
 /// A function of six locals, two of which are set between two divisions. Behind them, local 2 is
 /// the first one less the second one (byte 41), local 3 is that and the first one by `xor` (byte
@@ -76,10 +73,11 @@ pub fn around(context: &FunctionContext<'_, '_>, writer: &mut CodeWriter) -> Res
     close_body(context, writer)
 }
 
-const LOCALS: [ValType; 6] = [ValType::I32; 6];
+/// Those of the function.
+pub const LOCALS: [ValType; 6] = [ValType::I32; 6];
 
 /// Which instructions of the first function need a guard.
-fn guards(alloc: Global, parts: &ModuleParts) -> Result<Offsets, NoMemory> {
+pub fn guards(alloc: Global, parts: &ModuleParts) -> Result<Offsets, NoMemory> {
     match parts.bodies.get(0) {
         Some(body) => exposed(alloc, parts, body.ops.as_slice()),
         None => Ok(Offsets::new(alloc)),
@@ -87,19 +85,19 @@ fn guards(alloc: Global, parts: &ModuleParts) -> Result<Offsets, NoMemory> {
 }
 
 /// Which locals of the first function are worked out, where these instructions need a guard.
-fn found(
+pub fn found(
     alloc: Global,
     parts: &ModuleParts,
-    locals: &[ValType],
     guarded: &Offsets,
 ) -> Result<Items<Derivation>, NoMemory> {
     match parts.bodies.get(0) {
-        Some(body) => derivations(alloc, parts, 0, locals, body.ops.as_slice(), guarded),
+        Some(body) => derivations(alloc, parts, 0, &LOCALS, body.ops.as_slice(), guarded),
         None => Ok(Items::new(alloc)),
     }
 }
 
-fn has_exit(alloc: Global, context: &FunctionContext<'_, '_>) -> bool
+/// Whether that is written around no nodes.
+pub fn has_exit(alloc: Global, context: &FunctionContext<'_, '_>) -> bool
     requires none { context.now.landings ≡ [] }
 {
     let mut writer = CodeWriter::new(alloc);
@@ -107,83 +105,18 @@ fn has_exit(alloc: Global, context: &FunctionContext<'_, '_>) -> bool
     is_written(alloc, writer, &EXIT) && written
 }
 
-fn has_exit_of(
-    alloc: Global,
-    map: &IndexMap<'_>,
-    locals: Items<ValType>,
-    guarded: Offsets,
-    derived: Items<Derivation>,
-) -> bool {
-    if locals.len() > 6 {
-        return false;
-    }
-    let landings = Landings::new(alloc);
-    let gives = Some(ValType::I32);
-    let context = FunctionContext::new(map, locals, 4, 0, gives, landings, guarded, derived);
-    has_exit(alloc, &context)
-}
-
-fn works_out_with(
-    alloc: Global,
-    map: &IndexMap<'_>,
-    guarded: Offsets,
-    derived: Items<Derivation>,
-) -> bool {
-    match Items::from_slice(alloc, &LOCALS) {
-        Ok(locals) => has_exit_of(alloc, map, locals, guarded, derived),
-        Err(_) => false,
-    }
-}
-
-fn works_out_behind(alloc: Global, map: &IndexMap<'_>, guarded: Offsets) -> bool {
-    match found(alloc, map.source(), &LOCALS, &guarded) {
-        Ok(derived) => works_out_with(alloc, map, guarded, derived),
-        Err(_) => false,
-    }
-}
-
-fn works_out(alloc: Global, map: &IndexMap<'_>) -> bool {
-    match guards(alloc, map.source()) {
-        Ok(guarded) => works_out_behind(alloc, map, guarded),
-        Err(_) => false,
-    }
-}
-
-fn works_out_in(alloc: Global, source: &Validated) -> bool
-    requires { Sized source.now }
-{
-    match IndexMap::new(alloc, source.module()) {
-        Ok(map) => works_out(alloc, &map),
-        Err(_) => false,
-    }
-}
-
-fn is_worked_out(alloc: Global, bytes: &[u8]) -> bool {
-    match valid(alloc, bytes) {
-        Some(source) => works_out_in(alloc, &source),
-        None => false,
-    }
-}
-
 fn counts(alloc: Global, parts: &ModuleParts, guarded: &Offsets, expected: usize) -> bool {
-    match found(alloc, parts, &LOCALS, guarded) {
+    match found(alloc, parts, guarded) {
         Ok(derived) => derived.len() == expected,
         Err(_) => false,
     }
 }
 
-fn counts_of(alloc: Global, parts: &ModuleParts, expected: usize) -> bool {
+/// Whether so many locals of the first function are worked out.
+pub fn counts_of(alloc: Global, parts: &ModuleParts, expected: usize) -> bool {
     match guards(alloc, parts) {
         Ok(guarded) => counts(alloc, parts, &guarded, expected),
         Err(_) => false,
-    }
-}
-
-/// Whether so many locals are worked out in a valid module.
-fn counts_in(alloc: Global, bytes: &[u8], expected: usize) -> bool {
-    match valid(alloc, bytes) {
-        Some(source) => counts_of(alloc, source.module().parts(), expected),
-        None => false,
     }
 }
 
@@ -196,17 +129,14 @@ fn divided(at: usize) -> [u8; 64] {
     bytes
 }
 
-#[test]
-fn locals_are_worked_out_at_the_exit(rt: HostRuntime) {
-    assert!(rt; is_worked_out(rt.alloc(), &DERIVED));
-}
-
 // A local that is given by a division is not worked out, nor is one of which an operand was written
 // before the frame could be left.
 #[test]
-fn locals_behind_a_place_to_leave_are_kept(rt: HostRuntime) {
-    assert!(rt; counts_in(rt.alloc(), &DERIVED, 2));
+fn locals_are_worked_out_at_the_exit(rt: HostRuntime) {
+    let alloc = rt.alloc();
+    assert!(rt; is_so(alloc, &DERIVED, &Asked::Exit));
+    assert!(rt; is_so(alloc, &DERIVED, &Asked::Derived(2)));
     // with `div_s` in place of `xor`, and of the subtraction
-    assert!(rt; counts_in(rt.alloc(), &divided(48), 1));
-    assert!(rt; counts_in(rt.alloc(), &divided(41), 0));
+    assert!(rt; is_so(alloc, &divided(48), &Asked::Derived(1)));
+    assert!(rt; is_so(alloc, &divided(41), &Asked::Derived(0)));
 }

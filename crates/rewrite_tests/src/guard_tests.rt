@@ -1,18 +1,15 @@
 //! Verdicts of guards, and kinds of traps, which are run on constants.
 
 ghost use Rattle.std.specs.Prelude.{◌≤◌, length};
-ghost use Rattle.wasm_format_laws.specs.calls.Sized.{Sized};
 
 use crate::code_tests::places_of;
-use crate::modules::{DIV, valid};
+use crate::modules::{Asked, DIV, is_so};
 use guard_insert::{guard, guard_unreachable, kind};
-use index_map::IndexMap;
 use machine_basics::{Globals, Performed, Shared, perform};
 use pm_text::{Items, Stack};
-use rewrite_code::{CodeWriter, FunctionContext, Landings, Offsets, OperandPlace, OperandPlaces};
+use rewrite_code::{CodeWriter, FunctionContext, OperandPlace, OperandPlaces};
 use std::alloc::Global;
 use wasm_syntax::{Basic, Binary, Body, Instr, Op, ValType, Value};
-use wasm_validate::Validated;
 
 /// The dividend, the divisor, and the kind with which `i32.div_s` traps on them, or 0: 3 where the
 /// quotient is past the range, 2 where the divisor is zero.
@@ -76,30 +73,21 @@ fn verdict_of(alloc: Global, writer: CodeWriter) -> Option<Value> {
 
 const DIVISION: Basic = Basic::Binary(ValType::I32, Binary::DivS);
 
-/// What the guard of a division leaves.
-fn guarded(
+/// What the guard of a division leaves, or the code beside it, which tells the kind.
+fn left_by(
     alloc: Global,
     context: &FunctionContext<'_, '_>,
     places: &OperandPlaces,
+    beside: bool,
 ) -> Option<Value>
     requires { length places.now ≤ context.now.slots }
 {
     let mut writer = CodeWriter::new(alloc);
-    let written = guard(context, &mut writer, &DIVISION, places).is_ok();
-    let left = verdict_of(alloc, writer);
-    if written { left } else { None }
-}
-
-/// Which kind the code beside it leaves.
-fn kind_left(
-    alloc: Global,
-    context: &FunctionContext<'_, '_>,
-    places: &OperandPlaces,
-) -> Option<Value>
-    requires { length places.now ≤ context.now.slots }
-{
-    let mut writer = CodeWriter::new(alloc);
-    let written = kind(context, &mut writer, &DIVISION, places).is_ok();
+    let written = if beside {
+        kind(context, &mut writer, &DIVISION, places).is_ok()
+    } else {
+        guard(context, &mut writer, &DIVISION, places).is_ok()
+    };
     let left = verdict_of(alloc, writer);
     if written { left } else { None }
 }
@@ -116,11 +104,11 @@ fn leaves(
     if places.len() > 4 {
         return false;
     }
-    let found = guarded(alloc, context, places);
+    let found = left_by(alloc, context, places, false);
     if expected == 0 {
         return found == Some(Value::I32(0));
     }
-    let left = kind_left(alloc, context, places);
+    let left = left_by(alloc, context, places, true);
     found == Some(Value::I32(1)) && left == Some(Value::I32(expected))
 }
 
@@ -137,7 +125,8 @@ fn row_leaves(alloc: Global, context: &FunctionContext<'_, '_>, row: &(u32, u32,
     }
 }
 
-fn all_leave(alloc: Global, context: &FunctionContext<'_, '_>) -> bool
+/// Whether guards and kinds of all divisions are right.
+pub fn all_leave(alloc: Global, context: &FunctionContext<'_, '_>) -> bool
     requires { 4 ≤ context.now.slots }
 {
     for row in &DIVISIONS {
@@ -148,47 +137,8 @@ fn all_leave(alloc: Global, context: &FunctionContext<'_, '_>) -> bool
     true
 }
 
-const PARAMETERS: [ValType; 2] = [ValType::I32, ValType::I32];
-
-fn are_judged_with(alloc: Global, map: &IndexMap<'_>, locals: Items<ValType>) -> bool {
-    if locals.len() > 2 {
-        return false;
-    }
-    let landings = Landings::new(alloc);
-    let offsets = Offsets::new(alloc);
-    let gives = Some(ValType::I32);
-    let derived = Items::new(alloc);
-    let context = FunctionContext::new(map, locals, 4, 0, gives, landings, offsets, derived);
-    all_leave(alloc, &context)
-}
-
-fn are_judged_by(alloc: Global, map: &IndexMap<'_>) -> bool {
-    match Items::from_slice(alloc, &PARAMETERS) {
-        Ok(locals) => are_judged_with(alloc, map, locals),
-        Err(_) => false,
-    }
-}
-
-fn are_judged(alloc: Global, source: &Validated) -> bool
-    requires { Sized source.now }
-{
-    match IndexMap::new(alloc, source.module()) {
-        Ok(map) => are_judged_by(alloc, &map),
-        Err(_) => false,
-    }
-}
-
-fn divisions_are_judged(alloc: Global, bytes: &[u8]) -> bool {
-    match valid(alloc, bytes) {
-        Some(source) => are_judged(alloc, &source),
-        None => false,
-    }
-}
-
-#[test]
-fn a_guard_finds_a_trap_and_its_kind(rt: HostRuntime) {
-    assert!(rt; divisions_are_judged(rt.alloc(), &DIV));
-}
+/// Those of the division.
+pub const PARAMETERS: [ValType; 2] = [ValType::I32, ValType::I32];
 
 fn unreachable_is_guarded(alloc: Global) -> bool {
     let mut writer = CodeWriter::new(alloc);
@@ -197,6 +147,7 @@ fn unreachable_is_guarded(alloc: Global) -> bool {
 }
 
 #[test]
-fn the_guard_of_unreachable_finds_a_trap(rt: HostRuntime) {
+fn a_guard_finds_a_trap_and_its_kind(rt: HostRuntime) {
+    assert!(rt; is_so(rt.alloc(), &DIV, &Asked::Guards));
     assert!(rt; unreachable_is_guarded(rt.alloc()));
 }

@@ -5,6 +5,8 @@
 #[cfg(test)]
 mod code_tests;
 #[cfg(test)]
+mod contexts;
+#[cfg(test)]
 mod exit_tests;
 #[cfg(test)]
 mod guard_tests;

@@ -1,16 +1,13 @@
 //! Numbers of a rewritten module, and the names that the rewriting takes, worked out by hand.
 
 ghost use Rattle.std.specs.Bool.{OnTrue};
+ghost use Rattle.wasm_syntax.specs.Sizes.{WithinLimits};
 ghost use Rattle.index_map.specs.calls.Wrapper.{HasWrapper};
-ghost use Rattle.wasm_format_laws.specs.calls.Sized.{Sized};
 
-use crate::modules::{DIV, valid};
+use crate::modules::{Asked, DIV, is_so};
 use crate::piece_tests::has_two_functions;
 use index_map::{IndexMap, export_collision, import_collision};
-use std::alloc::Global;
-use wasm_decode::decode;
-use wasm_syntax::{ExportKind, ModuleParts, ValType};
-use wasm_validate::Validated;
+use wasm_syntax::{ExportKind, Module, ModuleParts, ValType};
 
 /// Two imports, `a` of `env` and `x` of `coredump`, and two functions. The first one is exported as
 /// `f` and as `coredump.memory`, the import `a` as `a`, and the second function is the start
@@ -76,20 +73,9 @@ fn has_wrappers(numbers: &IndexMap<'_>) -> bool {
         && numbers.helped().is_empty()
 }
 
-fn is_numbered(alloc: Global, source: &Validated) -> bool
-    requires { Sized source.now }
-{
-    match IndexMap::new(alloc, source.module()) {
-        Ok(numbers) => has_numbers(&numbers) && has_wrappers(&numbers),
-        Err(_) => false,
-    }
-}
-
-fn is_numbered_in(alloc: Global, bytes: &[u8]) -> bool {
-    match valid(alloc, bytes) {
-        Some(source) => is_numbered(alloc, &source),
-        None => false,
-    }
+/// Whether the module of two imports has its numbers.
+pub fn is_numbered(numbers: &IndexMap<'_>) -> bool {
+    has_numbers(numbers) && has_wrappers(numbers)
 }
 
 /// The wrapper of the export stands behind the two functions, and then that of the one function of
@@ -103,27 +89,12 @@ fn has_table(numbers: &IndexMap<'_>, doubled: bool, wrapped: &[u32], helpers: u3
         && numbers.helper_base() == helpers
 }
 
-fn is_shown(numbers: &IndexMap<'_>, doubled: bool) -> bool {
+/// Whether the table that a host sees has its numbers.
+pub fn is_shown(numbers: &IndexMap<'_>, doubled: bool) -> bool {
     if doubled {
         has_table(numbers, true, &[2, 1], 8)
     } else {
         has_table(numbers, false, &[2], 7)
-    }
-}
-
-fn is_shown_of(alloc: Global, source: &Validated, doubled: bool) -> bool
-    requires { Sized source.now }
-{
-    match IndexMap::new(alloc, source.module()) {
-        Ok(numbers) => is_shown(&numbers, doubled),
-        Err(_) => false,
-    }
-}
-
-fn is_shown_in(alloc: Global, bytes: &[u8], doubled: bool) -> bool {
-    match valid(alloc, bytes) {
-        Some(source) => is_shown_of(alloc, &source, doubled),
-        None => false,
     }
 }
 
@@ -135,30 +106,21 @@ fn moved_on() -> [u8; 67] {
 }
 
 /// Whether these are the first import and the first export with a name that the rewriting takes.
-fn has_collisions(alloc: Global, bytes: &[u8], import: Option<u32>, export: Option<u32>) -> bool {
-    match decode(alloc, bytes) {
-        Ok(m) => import_collision(&m) == import && export_collision(&m) == export,
-        Err(_) => false,
-    }
+pub fn has_collisions(source: &Module, import: Option<u32>, export: Option<u32>) -> bool
+    requires { WithinLimits source.now }
+{
+    import_collision(source) == import && export_collision(source) == export
 }
 
 #[test]
-fn functions_stand_behind_the_collector(rt: HostRuntime) {
-    assert!(rt; is_numbered_in(rt.alloc(), &NAMED));
-}
-
-#[test]
-fn taken_names_are_told(rt: HostRuntime) {
-    assert!(rt; has_collisions(rt.alloc(), &NAMED, Some(1), Some(1)));
-    assert!(rt; has_collisions(rt.alloc(), &DIV, None, None));
-}
-
-#[test]
-fn a_table_that_a_host_sees_is_doubled(rt: HostRuntime) {
-    assert!(rt; is_shown_in(rt.alloc(), &SHOWN, true));
-}
-
-#[test]
-fn a_table_whose_segments_do_not_fit_stays(rt: HostRuntime) {
-    assert!(rt; is_shown_in(rt.alloc(), &moved_on(), false));
+fn functions_names_and_tables_have_numbers(rt: HostRuntime) {
+    let alloc = rt.alloc();
+    // Functions stand behind the collector.
+    assert!(rt; is_so(alloc, &NAMED, &Asked::Numbers));
+    // Taken names are told.
+    assert!(rt; is_so(alloc, &NAMED, &Asked::Collisions(Some(1), Some(1))));
+    assert!(rt; is_so(alloc, &DIV, &Asked::Collisions(None, None)));
+    // A table that a host sees is doubled, and stays where its segments do not fit.
+    assert!(rt; is_so(alloc, &SHOWN, &Asked::Shown(true)));
+    assert!(rt; is_so(alloc, &moved_on(), &Asked::Shown(false)));
 }

@@ -4,18 +4,14 @@
 ghost use Rattle.std.specs.Prelude.{◌≡◌, ◌≤◌, ◌<◌, [], length};
 ghost use Rattle.std.specs.Bool.{OnTrue};
 ghost use Rattle.wasm_syntax.specs.Module.{function_types};
-ghost use Rattle.wasm_format_laws.specs.calls.Sized.{Sized};
 
 use crate::code_tests::{is_written, places_of};
 use crate::exit_tests::around;
-use crate::modules::valid;
+use crate::modules::{Asked, is_so};
 use causes::NoMemory;
 use guard_insert::guarded;
 use index_map::IndexMap;
-use pm_text::Items;
-use rewrite_code::{
-    CodeWriter, FunctionContext, Landings, Offsets, OperandPlace, OperandPlaces, drops,
-};
+use rewrite_code::{CodeWriter, FunctionContext, Offsets, OperandPlace, OperandPlaces, drops};
 use std::alloc::Global;
 use unwind_rewrite::{
     Site, TypeNumbers, branch_table, call_function, call_through_table, close_block, helper,
@@ -24,7 +20,6 @@ use unwind_rewrite::{
 use wasm_syntax::{
     Basic, Binary, Compare, Convert, FuncType, Instr, Jump, ModuleParts, ValType, Value,
 };
-use wasm_validate::Validated;
 
 /// Function 0 is imported; function 1 calls through a table, and is exported. Both have type 0.
 /// There are a global and a memory.
@@ -572,7 +567,8 @@ fn writes_functions(alloc: Global, context: &FunctionContext<'_, '_>, parts: &Mo
     writes_ends(alloc, context) && writes_calls(alloc, context, ftype)
 }
 
-fn writes_all(alloc: Global, context: &FunctionContext<'_, '_>) -> bool
+/// Whether all pieces are written.
+pub fn writes_all(alloc: Global, context: &FunctionContext<'_, '_>) -> bool
     requires heights { 4 ≤ context.now.slots }
     requires none { context.now.landings ≡ [] }
 {
@@ -581,62 +577,17 @@ fn writes_all(alloc: Global, context: &FunctionContext<'_, '_>) -> bool
         && writes_functions(alloc, context, context.map().source())
 }
 
-const LOCALS: [ValType; 2] = [ValType::I32, ValType::I64];
+/// Those of the function.
+pub const LOCALS: [ValType; 2] = [ValType::I32, ValType::I64];
 
-// The division needs its guard.
-fn five(alloc: Global) -> Result<Offsets, NoMemory> {
+/// The division needs its guard.
+pub fn five(alloc: Global) -> Result<Offsets, NoMemory> {
     let mut offsets = Offsets::new(alloc);
     offsets.note(5)?;
     Ok(offsets)
 }
 
-fn writes_with(
-    alloc: Global,
-    map: &IndexMap<'_>,
-    locals: Items<ValType>,
-    guarded: Offsets,
-) -> bool {
-    if locals.len() > 2 {
-        return false;
-    }
-    let landings = Landings::new(alloc);
-    let gives = Some(ValType::I32);
-    let derived = Items::new(alloc);
-    let context = FunctionContext::new(map, locals, 4, 1, gives, landings, guarded, derived);
-    writes_all(alloc, &context)
-}
-
-fn writes_behind(alloc: Global, map: &IndexMap<'_>, guarded: Offsets) -> bool {
-    match Items::from_slice(alloc, &LOCALS) {
-        Ok(locals) => writes_with(alloc, map, locals, guarded),
-        Err(_) => false,
-    }
-}
-
-fn writes_by(alloc: Global, map: &IndexMap<'_>) -> bool {
-    match five(alloc) {
-        Ok(guarded) => writes_behind(alloc, map, guarded),
-        Err(_) => false,
-    }
-}
-
-fn writes_pieces(alloc: Global, source: &Validated) -> bool
-    requires { Sized source.now }
-{
-    match IndexMap::new(alloc, source.module()) {
-        Ok(map) => writes_by(alloc, &map),
-        Err(_) => false,
-    }
-}
-
-fn writes_pieces_of(alloc: Global, bytes: &[u8]) -> bool {
-    match valid(alloc, bytes) {
-        Some(source) => writes_pieces(alloc, &source),
-        None => false,
-    }
-}
-
 #[test]
 fn pieces_are_written(rt: HostRuntime) {
-    assert!(rt; writes_pieces_of(rt.alloc(), &MODULE));
+    assert!(rt; is_so(rt.alloc(), &MODULE, &Asked::Pieces));
 }

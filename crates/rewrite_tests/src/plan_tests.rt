@@ -1,6 +1,6 @@
 //! The added locals of two functions, counted by hand.
 
-use crate::modules::{DIV, valid};
+use crate::modules::{Asked, DIV, is_so};
 use causes::NoMemory;
 use operand_spill::{SlotPlan, plan};
 use std::alloc::Global;
@@ -83,43 +83,22 @@ fn knows(alloc: Global, source: &Validated, plan: &SlotPlan) -> bool {
     })
 }
 
-/// Whether the nested blocks have their added locals and constants.
-fn nested_is_planned(alloc: Global, source: &Validated) -> bool {
+/// Whether the nested blocks have their added locals and constants, or the division its locals.
+pub fn is_planned(alloc: Global, source: &Validated, nested: bool) -> bool {
     match first_plan(alloc, source) {
         Ok(Some(plan)) => {
-            knows(alloc, source, &plan) && has_numbers(&plan, [13, 4, 11, 5, 6, 12])
+            if nested {
+                knows(alloc, source, &plan) && has_numbers(&plan, [13, 4, 11, 5, 6, 12])
+            } else {
+                has_numbers(&plan, [9, 4, 9, 5, 6, 10]) && has_slots(&plan)
+            }
         }
         _ => false,
     }
 }
 
-fn nested_is_planned_in(alloc: Global, bytes: &[u8]) -> bool {
-    match valid(alloc, bytes) {
-        Some(source) => nested_is_planned(alloc, &source),
-        None => false,
-    }
-}
-
-fn division_is_planned(alloc: Global, source: &Validated) -> bool {
-    match first_plan(alloc, source) {
-        Ok(Some(plan)) => has_numbers(&plan, [9, 4, 9, 5, 6, 10]) && has_slots(&plan),
-        _ => false,
-    }
-}
-
-fn division_is_planned_in(alloc: Global, bytes: &[u8]) -> bool {
-    match valid(alloc, bytes) {
-        Some(source) => division_is_planned(alloc, &source),
-        None => false,
-    }
-}
-
 #[test]
 fn added_locals_stand_behind_the_own(rt: HostRuntime) {
-    assert!(rt; division_is_planned_in(rt.alloc(), &DIV));
-}
-
-#[test]
-fn constants_are_known_until_they_are_taken(rt: HostRuntime) {
-    assert!(rt; nested_is_planned_in(rt.alloc(), &NESTED));
+    assert!(rt; is_so(rt.alloc(), &DIV, &Asked::Division));
+    assert!(rt; is_so(rt.alloc(), &NESTED, &Asked::Nested));
 }

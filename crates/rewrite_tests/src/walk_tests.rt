@@ -4,7 +4,6 @@ use causes::NoMemory;
 use operand_spill::{Label, Walk, end_of_list, takes};
 use rewrite_code::{OperandPlace, OperandPlaces};
 use std::alloc::Global;
-use std::test::Fail;
 use wasm_syntax::{Basic, Binary, Instr, Jump, Load, Op, Store, ValType, Value};
 
 const ONE: OperandPlace = OperandPlace::Known(Value::I32(1));
@@ -121,20 +120,6 @@ fn labels(alloc: Global) -> Result<bool, NoMemory> {
     labels_in(&mut walk)
 }
 
-#[test]
-fn copies_end_where_their_local_is_written(rt: HostRuntime) -> Result<(), Fail> {
-    assert!(rt; copies(rt.alloc())?);
-    Ok(())
-}
-
-#[test]
-fn places_and_labels_come_back(rt: HostRuntime) -> Result<(), Fail> {
-    let places = arms(rt.alloc())?;
-    let labels = labels(rt.alloc())?;
-    assert!(rt; places && labels && INNER.end_gives() == Some(ValType::I64));
-    Ok(())
-}
-
 const fn op(code: Instr) -> Op {
     Op {
         at: 0,
@@ -176,7 +161,10 @@ fn take_their_operands() -> bool {
 }
 
 #[test]
-fn ends_and_operands_of_instructions(rt: HostRuntime) -> Result<(), Fail> {
+fn places_and_labels_come_back(rt: HostRuntime) {
+    let alloc = rt.alloc();
+    assert!(rt; copies(alloc) == Ok(true));
+    assert!(rt; arms(alloc) == Ok(true) && labels(alloc) == Ok(true));
+    assert!(rt; INNER.end_gives() == Some(ValType::I64));
     assert!(rt; ends_with_its_list() && take_their_operands());
-    Ok(())
 }

@@ -13,5 +13,5 @@ low zero (suc (suc (suc zero))) = lit≤ tt
 low zero (suc (suc (suc (suc op)))) = lit≤ tt
 low (suc i) op = lit≤ tt
 
-pub weighs_in-requires : goal.weighs_in-requires
-weighs_in-requires c = subst Low (sym c.in_ok-heights.ensures) low
+pub weighs-requires-clause-low : goal.weighs-requires-clause-low
+weighs-requires-clause-low c = subst Low (sym c.in-Ok.ensures) low

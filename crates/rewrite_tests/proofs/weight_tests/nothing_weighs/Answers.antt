@@ -8,5 +8,5 @@ Low heights = (i op : ℕ) → height_at heights i op ≤ 4096
 low : Low []
 low i op = lit≤ tt
 
-pub weighs_in-requires : goal.weighs_in-requires
-weighs_in-requires c = subst Low (sym c.new-heights.ensures) low
+pub weighs-requires-clause-low : goal.weighs-requires-clause-low
+weighs-requires-clause-low c = subst Low (sym c.new-heights.ensures) low
