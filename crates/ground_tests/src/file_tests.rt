@@ -1,12 +1,20 @@
 //! Each public call once: what no clause says is that memory suffices, and what the system does.
 
+use causes::NoMemory;
 use pm_outside::{
     FileError, Files, HostFiles, HostOut, MemFiles, MemSink, Part, PutAnswer, ReadAnswer, Sink,
     WriteAnswer, read_file,
 };
-use std::alloc::Global;
+use std::alloc::{AllocError, Global};
 use std::io::{self, ErrorKind, Write};
 use std::test::Fail;
+
+/// Files whose calls with these numbers fail, each behind a part of its piece.
+fn failing(alloc: Global, calls: &[u64], parts: &[Part]) -> Result<MemFiles, AllocError> {
+    let mut files = MemFiles::new(alloc, Vec::from_slice(alloc, calls)?);
+    files.take_parts(Vec::from_slice(alloc, parts)?);
+    Ok(files)
+}
 
 /// Whether a file can be made of two pieces.
 fn writes_two<F: Files>(files: &mut F, name: &str) -> bool {
@@ -36,9 +44,9 @@ const READS: [(&str, u64, (ReadAnswer, [u8; 2])); 4] = [
     ("b", 0, (ReadAnswer::Missing, [0, 0])),
 ];
 
-fn are_read(files: &mut MemFiles) -> bool {
-    for (name, at, row) in READS {
-        if !reads(files, name, at, row) {
+fn are_read(files: &mut MemFiles, rows: &[(&str, u64, (ReadAnswer, [u8; 2]))]) -> bool {
+    for row in rows {
+        if !reads(files, row.0, row.1, row.2) {
             return false;
         }
     }
@@ -61,12 +69,21 @@ fn is_written_anew(files: &mut MemFiles) -> bool {
         && holds(files, "a", &[1, 2, 3])
 }
 
+fn are_kept(alloc: Global) -> bool {
+    match failing(alloc, &[5], &[]) {
+        Ok(mut files) => {
+            files.add("a", &[1, 2, 3]).is_ok()
+                && are_read(&mut files, &READS)
+                && is_limited(&mut files)
+                && is_written_anew(&mut files)
+        }
+        Err(_) => false,
+    }
+}
+
 #[test]
-fn files_in_memory(rt: HostRuntime) -> Result<(), Fail> {
-    let mut files = MemFiles::new(rt.alloc(), vec![in rt.alloc(); 5]?);
-    files.add("a", &[1, 2, 3])?;
-    assert!(rt; are_read(&mut files) && is_limited(&mut files) && is_written_anew(&mut files));
-    Ok(())
+fn files_in_memory(rt: HostRuntime) {
+    assert!(rt; are_kept(rt.alloc()));
 }
 
 /// A piece that is put, and the answer.
@@ -81,35 +98,57 @@ fn puts<S: Sink>(out: &mut S, rows: &[Put]) -> bool {
     true
 }
 
-const SECOND_FAILS: [Put; 3] = [
-    (b"ab", PutAnswer::Done),
-    (b"cd", PutAnswer::Failed { written: 0 }),
-    (b"ef", PutAnswer::Done),
+/// The calls that fail, each behind a part of its piece, the pieces, and what is written.
+type Output = (
+    &'static [u64],
+    &'static [Part],
+    &'static [Put],
+    &'static [u8],
+);
+
+/// With a part each failing put takes it: two bytes, none, and all of a piece that is shorter.
+const OUTPUTS: [Output; 2] = [
+    (
+        &[1],
+        &[],
+        &[
+            (b"ab", PutAnswer::Done),
+            (b"cd", PutAnswer::Failed { written: 0 }),
+            (b"ef", PutAnswer::Done),
+        ],
+        b"abef",
+    ),
+    (
+        &[0, 1, 2],
+        &[Part { call: 0, bytes: 2 }, Part { call: 2, bytes: 9 }],
+        &[
+            (b"abc", PutAnswer::Failed { written: 2 }),
+            (b"def", PutAnswer::Failed { written: 0 }),
+            (b"ghi", PutAnswer::Failed { written: 3 }),
+            (b"jkl", PutAnswer::Done),
+        ],
+        b"abghijkl",
+    ),
 ];
 
-#[test]
-fn output_in_memory(rt: HostRuntime) -> Result<(), Fail> {
-    let mut out = MemSink::new(rt.alloc(), vec![in rt.alloc(); 1]?);
-    assert!(rt; puts(&mut out, &SECOND_FAILS) && out.bytes() == b"abef".as_slice());
-    Ok(())
+fn output(alloc: Global, row: &Output) -> Result<MemSink, AllocError> {
+    let mut out = MemSink::new(alloc, Vec::from_slice(alloc, row.0)?);
+    out.take_parts(Vec::from_slice(alloc, row.1)?);
+    Ok(out)
 }
 
-/// Each failing put takes its part: two bytes, none, and all of a piece that is shorter.
-const PARTS_PUT: [Put; 4] = [
-    (b"abc", PutAnswer::Failed { written: 2 }),
-    (b"def", PutAnswer::Failed { written: 0 }),
-    (b"ghi", PutAnswer::Failed { written: 3 }),
-    (b"jkl", PutAnswer::Done),
-];
+fn is_put(alloc: Global, row: &Output) -> bool {
+    match output(alloc, row) {
+        Ok(mut out) => puts(&mut out, row.2) && out.bytes() == row.3,
+        Err(_) => false,
+    }
+}
 
 #[test]
-fn failing_puts_take_a_part(rt: HostRuntime) -> Result<(), Fail> {
-    let alloc = rt.alloc();
-    let parts = [Part { call: 0, bytes: 2 }, Part { call: 2, bytes: 9 }];
-    let mut out = MemSink::new(alloc, Vec::from_slice(alloc, &[0, 1, 2])?);
-    out.take_parts(Vec::from_slice(alloc, &parts)?);
-    assert!(rt; puts(&mut out, &PARTS_PUT) && out.bytes() == b"abghijkl".as_slice());
-    Ok(())
+fn outputs_in_memory(rt: HostRuntime) {
+    for row in &OUTPUTS {
+        assert!(rt; is_put(rt.alloc(), row));
+    }
 }
 
 /// The same of appends.
@@ -120,37 +159,43 @@ const PARTS_APPENDED: [(&[u8], WriteAnswer); 4] = [
     (b"jkl", WriteAnswer::Done),
 ];
 
-fn appends(files: &mut MemFiles) -> bool {
-    if files.create("a") != WriteAnswer::Done {
-        return false;
-    }
-    for (piece, answer) in PARTS_APPENDED {
-        if files.append("a", piece) != answer {
+fn appends(files: &mut MemFiles, rows: &[(&[u8], WriteAnswer)]) -> bool {
+    for row in rows {
+        if files.append("a", row.0) != row.1 {
             return false;
         }
     }
-    holds(files, "a", b"abghijkl")
+    true
+}
+
+fn are_appended(alloc: Global) -> bool {
+    let parts = [Part { call: 1, bytes: 2 }, Part { call: 3, bytes: 9 }];
+    match failing(alloc, &[1, 2, 3], &parts) {
+        Ok(mut files) => {
+            files.create("a") == WriteAnswer::Done
+                && appends(&mut files, &PARTS_APPENDED)
+                && holds(&files, "a", b"abghijkl")
+        }
+        Err(_) => false,
+    }
 }
 
 #[test]
-fn failing_appends_take_a_part(rt: HostRuntime) -> Result<(), Fail> {
-    let alloc = rt.alloc();
-    let parts = [Part { call: 1, bytes: 2 }, Part { call: 3, bytes: 9 }];
-    let mut files = MemFiles::new(alloc, Vec::from_slice(alloc, &[1, 2, 3])?);
-    files.take_parts(Vec::from_slice(alloc, &parts)?);
-    assert!(rt; appends(&mut files));
-    Ok(())
+fn failing_appends_take_a_part(rt: HostRuntime) {
+    assert!(rt; are_appended(rt.alloc()));
 }
 
-/// A file of `size` bytes, read whole through reads of at most `most` bytes.
-fn whole(alloc: Global, size: usize, most: usize, limit: usize) -> Result<Vec<u8>, FileError> {
-    let mut files = MemFiles::new(alloc, Vec::new(alloc));
+/// The name of a file.
+const NAME: &str = "pm_outside.test";
+
+/// Files with one of `size` bytes, of which each read gives at most so many, and whose call with
+/// that number fails.
+fn sized(alloc: Global, size: usize, most: usize, fails: u64) -> Result<MemFiles, NoMemory> {
     let bytes: Vec<u8> = vec![in alloc; 7u8; size]?;
-    if files.add("a", &bytes).is_err() {
-        return Err(FileError::NoMemory);
-    }
+    let mut files = failing(alloc, &[fails], &[])?;
+    files.add(NAME, &bytes)?;
     files.limit_reads(most.max(1));
-    read_file(alloc, &mut files, "a", limit)
+    Ok(files)
 }
 
 /// The size of a file, the most bytes of a read, and the limit.
@@ -165,56 +210,62 @@ const SIZES: [(usize, usize, usize); 8] = [
     (200_000, 70_000, 199_999),
 ];
 
-/// Whether a file is read whole within the limit, and refused above it.
-fn is_read_within(alloc: Global, size: usize, most: usize, limit: usize) -> bool {
-    match whole(alloc, size, most, limit) {
-        Ok(bytes) => size <= limit && bytes.len() == size,
-        Err(error) => size > limit && error == FileError::TooLong,
-    }
-}
-
-/// The name of a file.
-const NAME: &str = "pm_outside.test";
-
-fn is_refused<F: Files>(alloc: Global, files: &mut F, limit: usize, error: FileError) -> bool {
+/// Whether a file is read whole, which has so many bytes, or refused for this error.
+fn comes_to<F: Files>(
+    alloc: Global,
+    files: &mut F,
+    limit: usize,
+    wanted: Result<usize, FileError>,
+) -> bool {
     match read_file(alloc, files, NAME, limit) {
-        Ok(_) => false,
-        Err(found) => found == error,
+        Ok(bytes) => wanted == Ok(bytes.len()),
+        Err(error) => wanted == Err(error),
     }
 }
 
-#[test]
-fn files_read_whole(rt: HostRuntime) -> Result<(), Fail> {
-    let alloc = rt.alloc();
-    for (size, most, limit) in SIZES {
-        assert!(rt;
-            is_read_within(alloc, size, most, limit),
-            "at {size} of {limit}"
-        );
+/// Whether a file is read whole within the limit, and refused above it.
+fn is_read_within(alloc: Global, row: (usize, usize, usize)) -> bool {
+    let (size, most, limit) = row;
+    let wanted = if size <= limit {
+        Ok(size)
+    } else {
+        Err(FileError::TooLong)
+    };
+    match sized(alloc, size, most, u64::MAX) {
+        Ok(mut files) => comes_to(alloc, &mut files, limit, wanted),
+        Err(_) => false,
     }
-    let mut files = MemFiles::new(alloc, vec![in alloc; 1]?);
-    assert!(rt; is_refused(alloc, &mut files, 9, FileError::Missing));
-    assert!(rt; is_refused(alloc, &mut files, 9, FileError::Failed));
-    Ok(())
 }
 
 /// A file of a million bytes is refused by the sixth read of one byte, where five are the limit:
 /// the next call is the one that fails.
-fn is_refused_early(alloc: Global, files: &mut MemFiles) -> bool {
-    files.limit_reads(1);
-    is_refused(alloc, files, 5, FileError::TooLong)
-        && reads(files, NAME, 0, (ReadAnswer::Failed, [0, 0]))
+fn is_refused_early(alloc: Global) -> bool {
+    match sized(alloc, 1_000_000, 1, 6) {
+        Ok(mut files) => {
+            comes_to(alloc, &mut files, 5, Err(FileError::TooLong))
+                && reads(&mut files, NAME, 0, (ReadAnswer::Failed, [0, 0]))
+        }
+        Err(_) => false,
+    }
+}
+
+/// A file is not there, and the next call fails.
+fn fails_behind_missing(alloc: Global) -> bool {
+    match failing(alloc, &[1], &[]) {
+        Ok(mut files) => {
+            comes_to(alloc, &mut files, 9, Err(FileError::Missing))
+                && comes_to(alloc, &mut files, 9, Err(FileError::Failed))
+        }
+        Err(_) => false,
+    }
 }
 
 #[test]
-fn a_long_file_is_not_read_whole(rt: HostRuntime) -> Result<(), Fail> {
-    let alloc = rt.alloc();
-    let mut files = MemFiles::new(alloc, vec![in alloc; 6]?);
-    let size = 1_000_000;
-    let bytes: Vec<u8> = vec![in alloc; 7u8; size]?;
-    files.add(NAME, &bytes)?;
-    assert!(rt; is_refused_early(alloc, &mut files));
-    Ok(())
+fn files_read_whole(rt: HostRuntime) {
+    for row in &SIZES {
+        assert!(rt; is_read_within(rt.alloc(), *row));
+    }
+    assert!(rt; fails_behind_missing(rt.alloc()) && is_refused_early(rt.alloc()));
 }
 
 fn is_whole<F: Files>(alloc: Global, files: &mut F) -> bool {
@@ -226,10 +277,10 @@ fn is_whole<F: Files>(alloc: Global, files: &mut F) -> bool {
 
 /// Whether a file that is not there can be made, and is read then.
 fn is_made<F: Files>(alloc: Global, files: &mut F) -> bool {
-    is_refused(alloc, files, 9, FileError::Missing)
+    comes_to(alloc, files, 9, Err(FileError::Missing))
         && writes_two(files, NAME)
         && is_whole(alloc, files)
-        && is_refused(alloc, files, 4, FileError::TooLong)
+        && comes_to(alloc, files, 4, Err(FileError::TooLong))
         && reads(files, NAME, 3, (ReadAnswer::Got(2), *b"de"))
         && reads(files, NAME, 5, (ReadAnswer::End, [0, 0]))
         && files.create("no/such/folder") == WriteAnswer::Failed
@@ -275,20 +326,19 @@ const NARROW: [Put; 2] = [
     (b"defghi", PutAnswer::Failed { written: 4 }),
 ];
 
-#[test]
-fn narrow_output(rt: HostRuntime) -> Result<(), Fail> {
+fn is_narrow(alloc: Global) -> bool {
     let mut narrow = Narrow {
-        taken: Vec::new(rt.alloc()),
+        taken: Vec::new(alloc),
         calls: 0,
     };
-    assert!(rt; puts(&mut HostOut::new(&mut narrow), &NARROW));
-    assert!(rt; narrow.taken.as_slice() == b"abcdefg".as_slice());
-    Ok(())
+    puts(&mut HostOut::new(&mut narrow), &NARROW)
+        && narrow.taken.as_slice() == b"abcdefg".as_slice()
 }
 
+const WRITTEN: [Put; 1] = [(b"written\n", PutAnswer::Done)];
+
 #[test]
-fn real_output(rt: HostRuntime) -> Result<(), Fail> {
-    let mut out = HostOut::new(io::writer(&rt));
-    assert_eq!(rt; out.put(b"written\n"), PutAnswer::Done);
-    Ok(())
+fn outputs_of_the_system(rt: HostRuntime) {
+    assert!(rt; is_narrow(rt.alloc()));
+    assert!(rt; puts(&mut HostOut::new(io::writer(&rt)), &WRITTEN));
 }

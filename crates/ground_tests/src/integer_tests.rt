@@ -47,11 +47,13 @@ const TWO_I32: [(Binary, u32, u32, Result<u32, ArithTrap>); 35] = [
     (Binary::Rotr, 0x769A_BCDF, 0xFFFF_FFED, Ok(0xE6FB_B4D5)),
 ];
 
-#[test]
-fn two_i32(rt: HostRuntime) {
-    for (op, a, b, expected) in TWO_I32 {
-        assert!(rt; i32_binary(op, a, b) == expected);
+fn are_i32(rows: &[(Binary, u32, u32, Result<u32, ArithTrap>)]) -> bool {
+    for row in rows {
+        if i32_binary(row.0, row.1, row.2) != row.3 {
+            return false;
+        }
     }
+    true
 }
 
 const TWO_I64: [(Binary, u64, u64, Result<u64, ArithTrap>); 23] = [
@@ -170,11 +172,18 @@ const TWO_I64: [(Binary, u64, u64, Result<u64, ArithTrap>); 23] = [
     ),
 ];
 
-#[test]
-fn two_i64(rt: HostRuntime) {
-    for (op, a, b, expected) in TWO_I64 {
-        assert!(rt; i64_binary(op, a, b) == expected);
+fn are_i64(rows: &[(Binary, u64, u64, Result<u64, ArithTrap>)]) -> bool {
+    for row in rows {
+        if i64_binary(row.0, row.1, row.2) != row.3 {
+            return false;
+        }
     }
+    true
+}
+
+#[test]
+fn two_integers(rt: HostRuntime) {
+    assert!(rt; are_i32(&TWO_I32) && are_i64(&TWO_I64));
 }
 
 /// An integer; its leading zeros, its trailing zeros, and its ones.
@@ -192,24 +201,33 @@ const ONE_I64: [(u64, u64, u64, u64); 4] = [
     (0xDEAD_BEEF_DEAD_BEEF, 0, 0, 48),
 ];
 
-fn counts_32(a: u32) -> (u32, u32, u32, u32) {
-    let ones = i32_unary(Unary::Popcnt, a);
-    (a, i32_unary(Unary::Clz, a), i32_unary(Unary::Ctz, a), ones)
+fn count_i32(rows: &[(u32, u32, u32, u32)]) -> bool {
+    for row in rows {
+        if i32_unary(Unary::Clz, row.0) != row.1
+            || i32_unary(Unary::Ctz, row.0) != row.2
+            || i32_unary(Unary::Popcnt, row.0) != row.3
+        {
+            return false;
+        }
+    }
+    true
 }
 
-fn counts_64(a: u64) -> (u64, u64, u64, u64) {
-    let ones = i64_unary(Unary::Popcnt, a);
-    (a, i64_unary(Unary::Clz, a), i64_unary(Unary::Ctz, a), ones)
+fn count_i64(rows: &[(u64, u64, u64, u64)]) -> bool {
+    for row in rows {
+        if i64_unary(Unary::Clz, row.0) != row.1
+            || i64_unary(Unary::Ctz, row.0) != row.2
+            || i64_unary(Unary::Popcnt, row.0) != row.3
+        {
+            return false;
+        }
+    }
+    true
 }
 
 #[test]
 fn one_integer(rt: HostRuntime) {
-    for row in ONE_I32 {
-        assert!(rt; counts_32(row.0) == row);
-    }
-    for row in ONE_I64 {
-        assert!(rt; counts_64(row.0) == row);
-    }
+    assert!(rt; count_i32(&ONE_I32) && count_i64(&ONE_I64));
 }
 
 /// Comparisons of the least signed number with the greatest, and what they give.
@@ -226,12 +244,20 @@ const COMPARISONS: [(Compare, bool); 10] = [
     (Compare::Eq, false),
 ];
 
+fn are_compared(rows: &[(Compare, bool)]) -> bool {
+    for row in rows {
+        if i32_compare(row.0, 0x8000_0000, 0x7FFF_FFFF) != row.1
+            || i64_compare(row.0, 0x8000_0000_0000_0000, 0x7FFF_FFFF_FFFF_FFFF) != row.1
+        {
+            return false;
+        }
+    }
+    true
+}
+
 #[test]
 fn comparisons(rt: HostRuntime) {
-    for (op, holds) in COMPARISONS {
-        assert!(rt; i32_compare(op, 0x8000_0000, 0x7FFF_FFFF) == holds);
-        assert!(rt; i64_compare(op, 0x8000_0000_0000_0000, 0x7FFF_FFFF_FFFF_FFFF) == holds);
-    }
+    assert!(rt; are_compared(&COMPARISONS));
 }
 
 const NARROW_32: [(Narrow32, u32, u32); 3] = [
@@ -250,15 +276,30 @@ const NARROW_64: [(Narrow64, u64, u64); 3] = [
     ),
 ];
 
+fn narrow_i32(rows: &[(Narrow32, u32, u32)]) -> bool {
+    for row in rows {
+        if i32_narrow(row.0, row.1) != row.2 {
+            return false;
+        }
+    }
+    true
+}
+
+fn narrow_i64(rows: &[(Narrow64, u64, u64)]) -> bool {
+    for row in rows {
+        if i64_narrow(row.0, row.1) != row.2 {
+            return false;
+        }
+    }
+    true
+}
+
 #[test]
 fn conversions(rt: HostRuntime) {
-    assert!(rt; wrap(0xFFFF_FFFF_8000_0001) == 0x8000_0001);
-    assert!(rt; extend_s(0x8000_0000) == 0xFFFF_FFFF_8000_0000);
-    assert!(rt; extend_u(0x8000_0000) == 0x8000_0000);
-    for (width, a, expected) in NARROW_32 {
-        assert!(rt; i32_narrow(width, a) == expected);
-    }
-    for (width, a, expected) in NARROW_64 {
-        assert!(rt; i64_narrow(width, a) == expected);
-    }
+    assert!(rt;
+        wrap(0xFFFF_FFFF_8000_0001) == 0x8000_0001
+            && extend_s(0x8000_0000) == 0xFFFF_FFFF_8000_0000
+            && extend_u(0x8000_0000) == 0x8000_0000
+    );
+    assert!(rt; narrow_i32(&NARROW_32) && narrow_i64(&NARROW_64));
 }

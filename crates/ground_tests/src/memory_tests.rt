@@ -4,8 +4,6 @@ use crate::plain::Plain;
 use causes::NoMemory;
 use linear_memory::{Answer, Call, GrowAnswer, Memory, StoreFault, Width, run};
 use std::alloc::Global;
-use std::process::Abort;
-use std::test::Fail;
 
 // A number after another, by Knuth's multiplier for 64 bits.
 fn next(seed: u64) -> u64 {
@@ -88,8 +86,23 @@ fn calls(alloc: Global, seed: u64, count: u32) -> Result<Vec<Call>, NoMemory> {
     Ok(calls)
 }
 
-fn all_zero(bytes: &[u8]) -> bool {
-    bytes.iter().all(|byte| *byte == 0)
+fn are_zeros(bytes: &[u8]) -> bool {
+    for byte in bytes {
+        if *byte != 0 {
+            return false;
+        }
+    }
+    true
+}
+
+// Whether pages are equal, where one that is not made stands for zeros.
+fn are_same(paged: &Option<Vec<u8>>, plain: &Option<Vec<u8>>) -> bool {
+    match (paged, plain) {
+        (Some(a), Some(b)) => a.as_slice() == b.as_slice(),
+        (None, Some(b)) => are_zeros(b),
+        (None, None) => true,
+        (Some(_), None) => false,
+    }
 }
 
 // Equal, but that a page which is not made stands for zeros.
@@ -99,38 +112,53 @@ fn agree(paged: &Answer, plain: &Answer) -> bool {
         (Answer::Loaded(a), Answer::Loaded(b)) => *a == *b,
         (Answer::Stored(a), Answer::Stored(b)) => *a == *b,
         (Answer::Grew(a), Answer::Grew(b)) => *a == *b,
-        (Answer::Page(Some(a)), Answer::Page(Some(b))) => a.as_slice() == b.as_slice(),
-        (Answer::Page(None), Answer::Page(Some(b))) => all_zero(b),
-        (Answer::Page(None), Answer::Page(None)) => true,
+        (Answer::Page(a), Answer::Page(b)) => are_same(a, b),
         (Answer::Copied, Answer::Copied) => true,
         _ => false,
     }
 }
 
-fn compare(rt: &impl Abort, alloc: Global, seed: u64) -> Result<(), NoMemory> {
-    let calls = calls(alloc, seed, 300)?;
-    let mut memory = Memory::new(alloc, 2, 7)?;
-    let mut plain = Plain::new(alloc, 2, 7)?;
-    let paged_answers = run(alloc, &mut memory, &calls)?;
-    let plain_answers = plain.run(alloc, &calls)?;
-    assert_eq!(rt; paged_answers.len(), 300);
-    assert_eq!(rt; plain_answers.len(), 300);
-    for (a, b) in paged_answers.iter().zip(plain_answers.iter()) {
-        assert!(rt; agree(a, b));
+fn all_agree(paged: &[Answer], plain: &[Answer]) -> bool {
+    for (a, b) in paged.iter().zip(plain.iter()) {
+        if !agree(a, b) {
+            return false;
+        }
     }
-    Ok(())
+    paged.len() == 300 && plain.len() == 300
+}
+
+fn paged_answers(alloc: Global, calls: &[Call]) -> Result<Vec<Answer>, NoMemory> {
+    let mut memory = Memory::new(alloc, 2, 7)?;
+    run(alloc, &mut memory, calls)
+}
+
+fn plain_answers(alloc: Global, calls: &[Call]) -> Result<Vec<Answer>, NoMemory> {
+    let mut plain = Plain::new(alloc, 2, 7)?;
+    plain.run(alloc, calls)
+}
+
+fn is_compared(alloc: Global, calls: &[Call]) -> bool {
+    match (paged_answers(alloc, calls), plain_answers(alloc, calls)) {
+        (Ok(paged), Ok(plain)) => all_agree(&paged, &plain),
+        _ => false,
+    }
+}
+
+fn compares(alloc: Global, seed: u64) -> bool {
+    match calls(alloc, seed, 300) {
+        Ok(calls) => is_compared(alloc, &calls),
+        Err(NoMemory) => false,
+    }
 }
 
 #[test]
-fn the_answers_are_those_of_one_vector(rt: HostRuntime) -> Result<(), Fail> {
+fn the_answers_are_those_of_one_vector(rt: HostRuntime) {
     for seed in 1..6 {
-        compare(&rt, rt.alloc(), seed)?;
+        assert!(rt; compares(rt.alloc(), seed));
     }
-    Ok(())
 }
 
 /// What is asked of a memory, and what it answers.
-#[derive(Clone, Copy)]
 enum Row {
     Load(u64, Width, Option<u64>),
     Store(u64, Width, u64, Result<(), StoreFault>),
@@ -140,25 +168,26 @@ enum Row {
     Grow(u32, GrowAnswer),
 }
 
-fn is_answered(memory: &mut Memory, row: Row) -> bool {
+fn is_answered(memory: &mut Memory, row: &Row) -> bool {
     match row {
-        Row::Load(at, width, wanted) => memory.load(at, width.bytes()) == wanted,
-        Row::Store(at, width, value, wanted) => memory.store(at, width.bytes(), value) == wanted,
-        Row::Write(at, bytes, wanted) => memory.write(at, bytes) == wanted,
-        Row::Fill(at, byte, len, wanted) => memory.fill(at, byte, len) == wanted,
-        Row::Copy(to, from, len, wanted) => memory.copy(to, from, len) == wanted,
-        Row::Grow(count, wanted) => memory.grow(count) == wanted,
+        Row::Load(at, width, wanted) => memory.load(*at, width.bytes()) == *wanted,
+        Row::Store(at, width, value, wanted) => {
+            memory.store(*at, width.bytes(), *value) == *wanted
+        }
+        Row::Write(at, bytes, wanted) => memory.write(*at, bytes) == *wanted,
+        Row::Fill(at, byte, len, wanted) => memory.fill(*at, *byte, *len) == *wanted,
+        Row::Copy(to, from, len, wanted) => memory.copy(*to, *from, *len) == *wanted,
+        Row::Grow(count, wanted) => memory.grow(*count) == *wanted,
     }
 }
 
-/// The number of the first row that is answered otherwise.
-fn first_wrong(memory: &mut Memory, rows: &[Row]) -> Option<usize> {
-    for (i, row) in rows.iter().enumerate() {
-        if !is_answered(memory, *row) {
-            return Some(i);
+fn are_answered(memory: &mut Memory, rows: &[Row]) -> bool {
+    for row in rows {
+        if !is_answered(memory, row) {
+            return false;
         }
     }
-    None
+    true
 }
 
 const FAR: [Row; 5] = [
@@ -179,12 +208,16 @@ fn absent_pages(memory: &Memory) -> u32 {
     absent
 }
 
+fn are_far(alloc: Global) -> bool {
+    match Memory::new(alloc, 4096, 4096) {
+        Ok(mut memory) => are_answered(&mut memory, &FAR) && absent_pages(&memory) == 4094,
+        Err(NoMemory) => false,
+    }
+}
+
 #[test]
-fn pages_between_the_written_ones_are_absent(rt: HostRuntime) -> Result<(), Fail> {
-    let mut memory = Memory::new(rt.alloc(), 4096, 4096)?;
-    assert_eq!(rt; first_wrong(&mut memory, &FAR), None);
-    assert_eq!(rt; absent_pages(&memory), 4094);
-    Ok(())
+fn pages_between_the_written_ones_are_absent(rt: HostRuntime) {
+    assert!(rt; are_far(rt.alloc()));
 }
 
 const ROWS: [Row; 14] = [
@@ -209,12 +242,24 @@ const COPIED: [Row; 2] = [
     Row::Load(1, Width::One, Some(1)),
 ];
 
+/// Whether a copy stays as the memory was, which is filled.
+fn is_copied(memory: &mut Memory) -> bool {
+    match memory.copy_of() {
+        Ok(mut copied) => {
+            memory.fill(0, 9, 131_072) == Ok(()) && are_answered(&mut copied, &COPIED)
+        }
+        Err(NoMemory) => false,
+    }
+}
+
+fn are_near(alloc: Global) -> bool {
+    match Memory::new(alloc, 1, 2) {
+        Ok(mut memory) => are_answered(&mut memory, &ROWS) && is_copied(&mut memory),
+        Err(NoMemory) => false,
+    }
+}
+
 #[test]
-fn numbers_fills_and_copies(rt: HostRuntime) -> Result<(), Fail> {
-    let mut memory = Memory::new(rt.alloc(), 1, 2)?;
-    assert_eq!(rt; first_wrong(&mut memory, &ROWS), None);
-    let mut copied = memory.copy_of()?;
-    assert_eq!(rt; memory.fill(0, 9, 131_072), Ok(()));
-    assert_eq!(rt; first_wrong(&mut copied, &COPIED), None);
-    Ok(())
+fn numbers_fills_and_copies(rt: HostRuntime) {
+    assert!(rt; are_near(rt.alloc()));
 }

@@ -8,11 +8,10 @@ use host_devices::{Console, Counter, Device, DeviceAnswer, HostAnswer, HostSide,
 use host_set::{DeviceSet, Devices, Hosts};
 use linear_memory::Memory;
 use pm_text::{Items, Text};
-use std::alloc::Global;
+use std::alloc::{AllocError, Global};
 use std::cell::Cell;
 use std::mem;
 use std::rc::Rc;
-use std::test::Fail;
 use wasm_syntax::{HostCall, Import, Reply, Served, ValType, Value};
 
 /// An import of each of these modules.
@@ -59,104 +58,116 @@ fn reply(alloc: Global, value: u32) -> Reply {
     }
 }
 
-/// The value of a reply, or else the name of the device that failed, or a word.
-fn value(answer: &HostAnswer) -> Result<Option<Value>, &str> {
+/// The number of an import, and the value of the reply to a call of it, or else the name of the
+/// device that failed, or a word.
+type Row = (u32, Result<u32, &'static str>);
+
+fn is_wanted(answer: &HostAnswer, wanted: Result<u32, &str>) -> bool {
     match answer {
-        HostAnswer::Replied(reply) => Ok(reply.value),
-        HostAnswer::Failed(name) => Err(name.as_str()),
-        HostAnswer::NoReply => Err("(no reply)"),
-        HostAnswer::NoMemory => Err("(no memory)"),
+        HostAnswer::Replied(reply) => match wanted {
+            Ok(value) => reply.value == Some(Value::I32(value)),
+            Err(_) => false,
+        },
+        HostAnswer::Failed(name) => wanted == Err(name.as_str()),
+        HostAnswer::NoReply => wanted == Err("(no reply)"),
+        HostAnswer::NoMemory => false,
     }
 }
 
-fn is_value(answer: &HostAnswer, wanted: u32) -> bool {
-    value(answer) == Ok(Some(Value::I32(wanted)))
-}
-
-fn is_word(answer: &HostAnswer, wanted: &str) -> bool {
-    value(answer) == Err(wanted)
-}
-
-/// The answer to a call of the import of a number.
-fn answer<S: Devices>(
+/// Whether a call gets what a row says.
+fn is_answered<S: Devices>(
     alloc: Global,
     hosts: &mut Hosts<'_, S>,
     imports: &[Import],
-    number: u32,
-) -> HostAnswer
+    row: &Row,
+) -> bool
     requires { hosts.old.imports ≡ imports.now }
     ensures { hosts.new.imports ≡ imports.now }
 {
-    let Some(import) = imports.get(number as usize) else {
-        return HostAnswer::NoMemory;
+    let Some(import) = imports.get(row.0 as usize) else {
+        return false;
     };
-    match call_of(alloc, number) {
-        Ok(call) => hosts.call(import, &call, None),
-        Err(_) => HostAnswer::NoMemory,
+    match call_of(alloc, row.0) {
+        Ok(call) => is_wanted(&hosts.call(import, &call, None), row.1),
+        Err(_) => false,
     }
 }
 
-/// The answers to three calls, of the imports of these numbers, by a set of devices and a script.
-fn answers<S: Devices>(
-    alloc: Global,
-    devices: &mut S,
-    script: Option<Items<Reply>>,
-    imports: &[Import],
-    numbers: [u32; 3],
-) -> [HostAnswer; 3]
-    requires { AreDistinct (names (S.shown devices.old)) }
-{
-    let [first, second, third] = numbers;
-    let empty = S::empty(alloc);
-    let mut hosts = Hosts::new(alloc, mem::replace(devices, empty), script, imports);
-    let first = answer(alloc, &mut hosts, imports, first);
-    let second = answer(alloc, &mut hosts, imports, second);
-    let third = answer(alloc, &mut hosts, imports, third);
-    *devices = hosts.into_devices();
-    [first, second, third]
-}
-
-/// The value of the first reply that was served, to a call of the first import.
-fn first_served<S: Devices>(
-    alloc: Global,
-    devices: S,
-    script: Option<Items<Reply>>,
-    imports: &[Import],
-) -> Option<Value>
-    requires { AreDistinct (names (S.shown devices)) }
-{
-    let mut hosts = Hosts::new(alloc, devices, script, imports);
-    answer(alloc, &mut hosts, imports, 0);
+/// The value of the first reply that was served.
+fn first_given<S: Devices>(hosts: &Hosts<'_, S>) -> Option<Value> {
     if hosts.given() == 0 {
         return None;
     }
     hosts.reply(0).value
 }
 
-/// The answers to three calls of the imports of `env` and `counter`, by a set of devices and the
-/// replies 5 and 6.
-fn scripted(
-    alloc: Global,
-    devices: &mut DeviceSet,
-    numbers: [u32; 3],
-) -> Result<[HostAnswer; 3], NoMemory>
-    requires { AreDistinct (names (⟦<DeviceSet as Devices>⟧.shown devices.old)) }
-{
-    let imports = imports(alloc, ["env", "counter"])?;
-    let script = Some(replies(alloc, [5, 6])?);
-    Ok(answers(alloc, devices, script, imports.as_slice(), numbers))
+/// Two modules that are imported from, whether a script replies 5 and 6, three calls, the value of
+/// the first reply, and what two devices tell then: their names, how many calls they have replied
+/// to, and how many failed.
+struct Case {
+    modules: [&'static str; 2],
+    is_scripted: bool,
+    rows: [Row; 3],
+    first: u32,
+    told: [(&'static str, Option<(usize, u64)>); 2],
 }
 
-/// The answers to three calls of the imports of `env` and `counter`, by a set of devices alone.
-fn unscripted(
+fn script_of(alloc: Global, case: &Case) -> Result<Option<Items<Reply>>, NoMemory> {
+    if case.is_scripted {
+        return Ok(Some(replies(alloc, [5, 6])?));
+    }
+    Ok(None)
+}
+
+/// Whether devices and a script serve so.
+fn are_answered<S: Devices>(
+    alloc: Global,
+    hosts: &mut Hosts<'_, S>,
+    imports: &[Import],
+    case: &Case,
+) -> bool
+    requires { hosts.old.imports ≡ imports.now }
+{
+    let [first, second, third] = &case.rows;
+    is_answered(alloc, hosts, imports, first)
+        && is_answered(alloc, hosts, imports, second)
+        && is_answered(alloc, hosts, imports, third)
+        && first_given(hosts) == Some(Value::I32(case.first))
+}
+
+fn are_told(devices: &DeviceSet, case: &Case) -> bool {
+    let [first, second] = &case.told;
+    counts(devices, first.0) == first.1 && counts(devices, second.0) == second.1
+}
+
+/// Whether devices serve so with a script. They have replied then.
+fn serve_with<S: Devices>(
+    alloc: Global,
+    devices: &mut S,
+    script: Option<Items<Reply>>,
+    imports: &[Import],
+    case: &Case,
+) -> bool
+    requires { AreDistinct (names (S.shown devices.old)) }
+{
+    let empty = S::empty(alloc);
+    let mut hosts = Hosts::new(alloc, mem::replace(devices, empty), script, imports);
+    let is_so = are_answered(alloc, &mut hosts, imports, case);
+    *devices = hosts.into_devices();
+    is_so
+}
+
+/// Whether a case holds of devices and imports.
+fn serves(
     alloc: Global,
     devices: &mut DeviceSet,
-    numbers: [u32; 3],
-) -> Result<[HostAnswer; 3], NoMemory>
+    imports: &[Import],
+    case: &Case,
+) -> Result<bool, NoMemory>
     requires { AreDistinct (names (⟦<DeviceSet as Devices>⟧.shown devices.old)) }
 {
-    let imports = imports(alloc, ["env", "counter"])?;
-    Ok(answers(alloc, devices, None, imports.as_slice(), numbers))
+    let script = script_of(alloc, case)?;
+    Ok(serve_with(alloc, devices, script, imports, case) && are_told(devices, case))
 }
 
 /// Attaches a device. The answer is how many calls the one that it replaces has replied to.
@@ -183,10 +194,6 @@ fn counts(devices: &DeviceSet, name: &str) -> Option<(usize, u64)> {
     }
 }
 
-fn has_counts(devices: &DeviceSet, name: &str, wanted: (usize, u64)) -> bool {
-    counts(devices, name) == Some(wanted)
-}
-
 /// How many calls a device has replied to.
 fn logged(device: &Option<Box<dyn Device>>) -> Option<usize> {
     match device {
@@ -202,21 +209,25 @@ fn called(alloc: Global) -> Result<Counter, NoMemory> {
     Ok(counter)
 }
 
-#[test]
-fn a_replaced_device_is_handed_back(rt: HostRuntime) -> Result<(), Fail> {
-    let alloc = rt.alloc();
+/// Whether a device that is replaced or released is handed back.
+fn is_handed_back(alloc: Global) -> Result<bool, NoMemory> {
     let mut devices = DeviceSet::new(alloc);
     let first = attach(&mut devices, Box::new(alloc, Counter::new(alloc))?)?;
-    let console = Console::new(alloc, Vec::new(alloc));
-    let console = attach(&mut devices, Box::new(alloc, console)?)?;
+    let console = attach(
+        &mut devices,
+        Box::new(alloc, Console::new(alloc, Vec::new(alloc)))?,
+    )?;
     let again = attach(&mut devices, Box::new(alloc, called(alloc)?)?)?;
-    assert!(rt; first.is_none() && console.is_none() && again == Some(0));
-    assert!(rt; has_counts(&devices, "counter", (1, 0)));
-    assert!(rt; has_counts(&devices, "console", (0, 0)));
-    assert!(rt; release(&mut devices, "counter") == Some(1));
-    assert!(rt; counts(&devices, "counter").is_none());
-    assert!(rt; release(&mut devices, "counter").is_none());
-    Ok(())
+    Ok(
+        first.is_none()
+            && console.is_none()
+            && again == Some(0)
+            && counts(&devices, "counter") == Some((1, 0))
+            && counts(&devices, "console") == Some((0, 0))
+            && release(&mut devices, "counter") == Some(1)
+            && counts(&devices, "counter").is_none()
+            && release(&mut devices, "counter").is_none(),
+    )
 }
 
 /// A device that counts how many such devices are dropped.
@@ -255,93 +266,134 @@ impl Device for Dropping {
     }
 }
 
-fn counted(drops: &Rc<Cell<u64>>) -> Result<Dropping, Fail> {
+fn counted(drops: &Rc<Cell<u64>>) -> Result<Dropping, AllocError> {
     Ok(Dropping {
         drops: drops.clone()?,
     })
 }
 
-#[test]
-fn devices_that_are_left_are_dropped_with_the_set(rt: HostRuntime) -> Result<(), Fail> {
-    let alloc = rt.alloc();
+/// Whether devices that are left are dropped with the set, and one that is replaced with what is
+/// handed back.
+fn are_dropped(alloc: Global) -> Result<bool, AllocError> {
     let drops = Rc::new(alloc, Cell::new(0))?;
     let mut devices = DeviceSet::new(alloc);
     let first = devices.attach(Box::new(alloc, counted(&drops)?)?);
-    assert!(rt; drops.get() == 0);
+    let none_at_first = drops.get() == 0;
     let second = devices.attach(Box::new(alloc, counted(&drops)?)?);
-    assert!(rt; drops.get() == 0);
     drop(first);
-    assert!(rt; drops.get() == 0);
+    let none_then = drops.get() == 0;
     drop(second);
-    assert!(rt; drops.get() == 1);
+    let one = drops.get() == 1;
     drop(devices);
-    assert!(rt; drops.get() == 2);
-    Ok(())
+    Ok(none_at_first && none_then && one && drops.get() == 2)
 }
 
 #[test]
-fn a_script_ends(rt: HostRuntime) -> Result<(), Fail> {
-    let alloc = rt.alloc();
-    let mut devices = DeviceSet::new(alloc);
-    let answers = scripted(alloc, &mut devices, [0, 1, 0])?;
-    assert!(rt; is_value(&answers[0], 5));
-    assert!(rt; is_value(&answers[1], 6));
-    assert!(rt; is_word(&answers[2], "(no reply)"));
-    Ok(())
+fn devices_are_handed_back_and_dropped(rt: HostRuntime) {
+    assert!(rt; is_handed_back(rt.alloc()) == Ok(true));
+    assert!(rt; are_dropped(rt.alloc()) == Ok(true));
 }
 
-#[test]
-fn a_reply_of_the_script_is_kept(rt: HostRuntime) -> Result<(), Fail> {
-    let alloc = rt.alloc();
-    let imports = imports(alloc, ["env", "counter"])?;
-    let script = Some(replies(alloc, [5, 6])?);
-    let found = first_served(alloc, DeviceSet::new(alloc), script, imports.as_slice());
-    assert!(rt; found == Some(Value::I32(5)));
-    Ok(())
-}
+const NONE: (&str, Option<(usize, u64)>) = ("counter", None);
 
-#[test]
-fn a_reply_of_a_device_is_kept(rt: HostRuntime) -> Result<(), Fail> {
-    let alloc = rt.alloc();
-    let mut devices = DeviceSet::new(alloc);
-    attach(&mut devices, Box::new(alloc, called(alloc)?)?)?;
-    let imports = imports(alloc, ["counter", "env"])?;
-    let found = first_served(alloc, devices, None, imports.as_slice());
-    assert!(rt; found == Some(Value::I32(1)));
-    Ok(())
-}
+/// A script that ends.
+const SCRIPT: Case = Case {
+    modules: ["env", "counter"],
+    is_scripted: true,
+    rows: [(0, Ok(5)), (1, Ok(6)), (0, Err("(no reply)"))],
+    first: 5,
+    told: [NONE, NONE],
+};
 
-#[test]
-fn a_device_goes_before_the_script(rt: HostRuntime) -> Result<(), Fail> {
-    let alloc = rt.alloc();
-    let mut devices = DeviceSet::new(alloc);
-    attach(&mut devices, Box::new(alloc, Counter::new(alloc))?)?;
-    let answers = scripted(alloc, &mut devices, [1, 0, 1])?;
-    assert!(rt; is_value(&answers[0], 0));
-    assert!(rt; is_value(&answers[1], 5));
-    assert!(rt; is_value(&answers[2], 1));
-    assert!(rt; has_counts(&devices, "counter", (2, 0)));
-    Ok(())
-}
+/// A counter that was called once.
+const CALLED: Case = Case {
+    modules: ["counter", "env"],
+    is_scripted: false,
+    rows: [(0, Ok(1)), (0, Ok(2)), (0, Ok(3))],
+    first: 1,
+    told: [("counter", Some((4, 0))), ("env", None)],
+};
 
-/// A device for `env` that replies 5 and 6, and fails at once.
-fn failing(alloc: Global) -> Result<Scripted, Fail> {
+/// A new counter, which goes before the script.
+const BEFORE: Case = Case {
+    modules: ["env", "counter"],
+    is_scripted: true,
+    rows: [(1, Ok(0)), (0, Ok(5)), (1, Ok(1))],
+    first: 0,
+    told: [("counter", Some((2, 0))), ("env", None)],
+};
+
+/// A device for `env` that replies 5 and 6, and fails at once, and a counter.
+const FAULT: Case = Case {
+    modules: ["env", "counter"],
+    is_scripted: false,
+    rows: [(0, Err("env")), (1, Ok(0)), (0, Ok(5))],
+    first: 0,
+    told: [("counter", Some((1, 0))), ("env", Some((1, 1)))],
+};
+
+fn failing(alloc: Global) -> Result<Scripted, NoMemory> {
     let name = Text::from_str(alloc, "env")?;
     let replies = replies(alloc, [5, 6])?;
-    Ok(Scripted::new(alloc, name, replies, vec![in alloc; 0]?))
+    Ok(Scripted::new(alloc, name, replies, Vec::from_slice(alloc, &[0])?))
 }
 
-#[test]
-fn a_fault_names_its_device(rt: HostRuntime) -> Result<(), Fail> {
-    let alloc = rt.alloc();
+fn with_counter(
+    alloc: Global,
+    counter: Counter,
+    imports: &[Import],
+    case: &Case,
+) -> Result<bool, NoMemory> {
+    let mut devices = DeviceSet::new(alloc);
+    attach(&mut devices, Box::new(alloc, counter)?)?;
+    serves(alloc, &mut devices, imports, case)
+}
+
+fn with_failing(alloc: Global, imports: &[Import], case: &Case) -> Result<bool, NoMemory> {
     let mut devices = DeviceSet::new(alloc);
     attach(&mut devices, Box::new(alloc, failing(alloc)?)?)?;
     attach(&mut devices, Box::new(alloc, Counter::new(alloc))?)?;
-    let answers = unscripted(alloc, &mut devices, [0, 1, 0])?;
-    assert!(rt; is_word(&answers[0], "env"));
-    assert!(rt; is_value(&answers[1], 0));
-    assert!(rt; is_value(&answers[2], 5));
-    assert!(rt; has_counts(&devices, "env", (1, 1)));
-    assert!(rt; has_counts(&devices, "counter", (1, 0)));
-    Ok(())
+    serves(alloc, &mut devices, imports, case)
+}
+
+/// The devices of a case.
+#[derive(Clone, Copy)]
+enum Kind {
+    Nothing,
+    Called,
+    Counter,
+    Failing,
+}
+
+fn holds(alloc: Global, kind: Kind, case: &Case) -> Result<bool, NoMemory> {
+    let imports = imports(alloc, case.modules)?;
+    let imports = imports.as_slice();
+    match kind {
+        Kind::Nothing => serves(alloc, &mut DeviceSet::new(alloc), imports, case),
+        Kind::Called => with_counter(alloc, called(alloc)?, imports, case),
+        Kind::Counter => with_counter(alloc, Counter::new(alloc), imports, case),
+        Kind::Failing => with_failing(alloc, imports, case),
+    }
+}
+
+const CASES: [(Kind, Case); 4] = [
+    (Kind::Nothing, SCRIPT),
+    (Kind::Called, CALLED),
+    (Kind::Counter, BEFORE),
+    (Kind::Failing, FAULT),
+];
+
+/// The number of the first case that does not hold, if there is one.
+fn first_wrong(alloc: Global, cases: &[(Kind, Case)]) -> Option<usize> {
+    for (i, row) in cases.iter().enumerate() {
+        if holds(alloc, row.0, &row.1) != Ok(true) {
+            return Some(i);
+        }
+    }
+    None
+}
+
+#[test]
+fn devices_and_scripts_serve(rt: HostRuntime) {
+    assert_eq!(rt; first_wrong(rt.alloc(), &CASES), None);
 }

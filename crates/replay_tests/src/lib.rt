@@ -3,6 +3,9 @@
 
 #[cfg(test)]
 mod step_tests;
+#[cfg(test)]
 mod tests;
+#[cfg(test)]
 mod text_tests;
+#[cfg(test)]
 mod word_tests;

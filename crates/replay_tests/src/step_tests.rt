@@ -1,5 +1,6 @@
 //! The steps of recorded runs.
 
+use crate::tests::{Covered, STRAIGHT, TO_THE_END, UP_TO_A_TRAP, WITHOUT_LINES, covers};
 use host_replies::read_replies;
 use machine_basics::TrapKind;
 use replay::{Recorded, Replayer, RunEnd};
@@ -19,23 +20,19 @@ const STARTED: [u8; 61] = [
     0x24, 0x00, 0x0b, 0x09, 0x00, 0x20, 0x00, 0x23, 0x00, 0x6a, 0x24, 0x00, 0x0b,
 ];
 
-/// A reply that writes four bytes.
-const WRITING: &[u8] = b"i32:9 16=01020304\n";
-
-/// What is run, for how many steps, and how far apart the first checkpoints are.
-#[derive(Clone, Copy)]
-struct Case<'a> {
-    module: &'a [u8],
-    entry: &'a str,
-    args: &'a [Value],
-    log: &'a [u8],
+/// What is run, and for how many steps.
+struct Case {
+    module: &'static [u8],
+    entry: &'static str,
+    args: &'static [Value],
+    log: &'static [u8],
     fuel: u64,
-    every: u64,
 }
 
-/// What is asked of a replay.
-#[derive(Clone, Copy)]
+/// What is asked of a valid module, and of a replay of it.
 enum Asked {
+    /// Whether a run has these counts of lines.
+    Covers(&'static Covered),
     /// Its last step, and how it ended there.
     Ending,
     /// A number for all its states, one behind the other, from the last one back.
@@ -52,13 +49,14 @@ enum Asked {
     Checkpoints,
 }
 
-#[derive(Clone, Copy, PartialEq, Eq)]
-enum Told {
-    Nothing,
-    Ended(u64, Option<End>),
-    Number(u64),
-    Held(bool),
+/// A number, and an end where one was asked for; or nothing.
+type Told = Option<(u64, Option<End>)>;
+
+fn held(holds: bool) -> Told {
+    Some((u64::from(holds), None))
 }
+
+const HELD: Told = Some((1, None));
 
 fn goes(replayer: &mut Replayer<'_>, step: u64, wanted: u64) -> bool {
     match replayer.goto(step) {
@@ -167,11 +165,11 @@ fn states(replayer: &mut Replayer<'_>, every: u64) -> Told {
     for step in 0..=end {
         let step = end.saturating_sub(step);
         if !goes(replayer, step, step) || replayer.state().since_copy() > most {
-            return Told::Nothing;
+            return None;
         }
         number = state_number(number, replayer.state());
     }
-    Told::Number(number)
+    Some((number, None))
 }
 
 fn divides(replayer: &mut Replayer<'_>) -> bool {
@@ -219,15 +217,16 @@ fn sets(replayer: &mut Replayer<'_>) -> bool {
         && shows(replayer, 5, Some(Value::I32(7)), five)
 }
 
-fn answer(replayer: &mut Replayer<'_>, asked: Asked, every: u64) -> Told {
+fn answer(replayer: &mut Replayer<'_>, asked: &Asked, every: u64) -> Told {
     match asked {
-        Asked::Ending => Told::Ended(replayer.end(), end_of(replayer.outcome())),
+        Asked::Covers(_) => None,
+        Asked::Ending => Some((replayer.end(), end_of(replayer.outcome()))),
         Asked::States => states(replayer, every),
-        Asked::Divides => Told::Held(divides(replayer)),
-        Asked::Finds => Told::Held(finds_places(replayer)),
-        Asked::Writes => Told::Held(writes(replayer)),
-        Asked::Sets => Told::Held(sets(replayer)),
-        Asked::Checkpoints => Told::Number(replayer.checkpoints()),
+        Asked::Divides => held(divides(replayer)),
+        Asked::Finds => held(finds_places(replayer)),
+        Asked::Writes => held(writes(replayer)),
+        Asked::Sets => held(sets(replayer)),
+        Asked::Checkpoints => Some((replayer.checkpoints(), None)),
     }
 }
 
@@ -243,13 +242,13 @@ fn valid(alloc: Global, bytes: &[u8]) -> Option<Validated> {
 fn ask_replay(
     alloc: Global,
     source: &Validated,
-    case: Case<'_>,
+    case: &Case,
+    every: u64,
     replies: &[Reply],
-    asked: Asked,
+    asked: &Asked,
 ) -> Told {
-    let every = case.every;
     if every == 0 {
-        return Told::Nothing;
+        return None;
     }
     let recorded = Recorded {
         source,
@@ -261,160 +260,244 @@ fn ask_replay(
     };
     match Replayer::new(alloc, recorded, every) {
         Ok(mut replayer) => answer(&mut replayer, asked, every),
-        Err(_) => Told::Nothing,
+        Err(_) => None,
     }
 }
 
-fn ask_source(alloc: Global, source: &Validated, case: Case<'_>, asked: Asked) -> Told {
+fn ask_log(alloc: Global, source: &Validated, case: &Case, every: u64, asked: &Asked) -> Told {
     match read_replies(alloc, case.log) {
-        Ok(replies) => ask_replay(alloc, source, case, replies.as_slice(), asked),
-        Err(_) => Told::Nothing,
+        Ok(replies) => ask_replay(alloc, source, case, every, replies.as_slice(), asked),
+        Err(_) => None,
     }
 }
 
-fn ask(alloc: Global, case: Case<'_>, asked: Asked) -> Told {
+fn ask_source(alloc: Global, source: &Validated, case: &Case, every: u64, asked: &Asked) -> Told {
+    match asked {
+        Asked::Covers(row) => held(covers(alloc, source, row)),
+        _ => ask_log(alloc, source, case, every, asked),
+    }
+}
+
+fn ask(alloc: Global, case: &Case, every: u64, asked: &Asked) -> Told {
     match valid(alloc, case.module) {
-        Some(source) => ask_source(alloc, &source, case, asked),
-        None => Told::Nothing,
+        Some(source) => ask_source(alloc, &source, case, every, asked),
+        None => None,
     }
 }
 
 /// What is told where the first checkpoints are one step apart and where they are 1,000 steps
 /// apart, if it is the same.
-fn ask_both(alloc: Global, case: Case<'_>, asked: Asked) -> Told {
-    let near = ask(alloc, Case { every: 1, ..case }, asked);
-    let far = ask(
-        alloc,
-        Case {
-            every: 1_000,
-            ..case
-        },
-        asked,
-    );
-    if near == far { near } else { Told::Nothing }
-}
-
-fn holds(alloc: Global, case: Case<'_>, asked: Asked) -> bool {
-    ask_both(alloc, case, asked) == Told::Held(true)
-}
-
-fn ends(alloc: Global, case: Case<'_>, step: u64, end: End) -> bool {
-    ask_both(alloc, case, Asked::Ending) == Told::Ended(step, Some(end))
-}
-
-fn same_states(alloc: Global, case: Case<'_>) -> bool {
-    matches!(ask_both(alloc, case, Asked::States), Told::Number(_))
+fn ask_both(alloc: Global, case: &Case, asked: &Asked) -> Told {
+    let near = ask(alloc, case, 1, asked);
+    let far = ask(alloc, case, 1_000, asked);
+    if near == far { near } else { None }
 }
 
 // ---- cases
 
-fn division(args: &[Value], fuel: u64) -> Case<'_> {
-    Case {
-        module: &DIVISION,
-        entry: "div",
-        args,
-        log: b"",
-        fuel,
-        every: 1,
-    }
-}
-
-/// A call of `f` of a module, with these replies.
-fn call<'a>(module: &'a [u8], args: &'a [Value], log: &'a [u8]) -> Case<'a> {
-    Case {
-        module,
-        entry: "f",
-        args,
-        log,
-        fuel: 100_000,
-        every: 1,
-    }
-}
-
-/// How many checkpoints a recursion so deep keeps.
-fn kept(alloc: Global, depth: u32, every: u64) -> Told {
-    let args = [Value::I32(depth)];
-    let case = Case {
-        every,
-        ..call(&RECURSIVE, &args, b"")
-    };
-    ask(alloc, case, Asked::Checkpoints)
-}
-
-const QUARTER: [Value; 2] = [Value::I32(8), Value::I32(2)];
+const EIGHT_BY_TWO: [Value; 2] = [Value::I32(8), Value::I32(2)];
 
 const BY_ZERO: [Value; 2] = [Value::I32(7), Value::I32(0)];
 
-#[test]
-fn runs_end_with_results(rt: HostRuntime) {
-    let none = End::Finished { value: None };
-    let four = End::Finished {
-        value: Some(Value::I32(4)),
-    };
-    let seven = [Value::I32(7)];
-    let finished = ends(rt.alloc(), call(&STARTED, &seven, b""), 8, none);
-    let gave = ends(rt.alloc(), division(&QUARTER, 9), 4, four);
-    assert!(rt; finished && gave);
+const QUARTER: Case = Case {
+    module: &DIVISION,
+    entry: "div",
+    args: &EIGHT_BY_TWO,
+    log: b"",
+    fuel: 9,
+};
+
+const CUT_QUARTER: Case = Case {
+    module: &DIVISION,
+    entry: "div",
+    args: &EIGHT_BY_TWO,
+    log: b"",
+    fuel: 2,
+};
+
+const DIVIDED_BY_ZERO: Case = Case {
+    module: &DIVISION,
+    entry: "div",
+    args: &BY_ZERO,
+    log: b"",
+    fuel: 9,
+};
+
+const LACKING: Case = Case {
+    module: &READING,
+    entry: "f",
+    args: &[],
+    log: b"",
+    fuel: 100_000,
+};
+
+const MISFIT: Case = Case {
+    module: &READING,
+    entry: "f",
+    args: &[],
+    log: b"i64:9\n",
+    fuel: 100_000,
+};
+
+/// The reply writes four bytes.
+const WRITING: Case = Case {
+    module: &READING,
+    entry: "f",
+    args: &[],
+    log: b"i32:9 16=01020304\n",
+    fuel: 100_000,
+};
+
+const STARTED_BY_SEVEN: Case = Case {
+    module: &STARTED,
+    entry: "f",
+    args: &[Value::I32(7)],
+    log: b"",
+    fuel: 100_000,
+};
+
+const STARTED_BY_FIVE: Case = Case {
+    module: &STARTED,
+    entry: "f",
+    args: &[Value::I32(5)],
+    log: b"",
+    fuel: 100_000,
+};
+
+const BRANCHED: Case = Case {
+    module: &TABLE_BRANCH,
+    entry: "f",
+    args: &[Value::I32(5)],
+    log: b"",
+    fuel: 100_000,
+};
+
+const DEEP: Case = Case {
+    module: &RECURSIVE,
+    entry: "f",
+    args: &[Value::I32(30)],
+    log: b"",
+    fuel: 100_000,
+};
+
+const LESS_DEEP: Case = Case {
+    module: &RECURSIVE,
+    entry: "f",
+    args: &[Value::I32(4)],
+    log: b"",
+    fuel: 100_000,
+};
+
+const LEAST_DEEP: Case = Case {
+    module: &RECURSIVE,
+    entry: "f",
+    args: &[Value::I32(1)],
+    log: b"",
+    fuel: 100_000,
+};
+
+const LINES: Case = Case {
+    module: &STRAIGHT,
+    entry: "f",
+    args: &[],
+    log: b"",
+    fuel: 0,
+};
+
+/// What is run, what is asked, and what is told.
+type Row = (&'static Case, Asked, Told);
+
+const ROWS: [Row; 13] = [
+    // Runs end with results.
+    (
+        &STARTED_BY_SEVEN,
+        Asked::Ending,
+        Some((8, Some(End::Finished { value: None }))),
+    ),
+    (
+        &QUARTER,
+        Asked::Ending,
+        Some((
+            4,
+            Some(End::Finished {
+                value: Some(Value::I32(4)),
+            }),
+        )),
+    ),
+    // Runs end otherwise.
+    (
+        &DIVIDED_BY_ZERO,
+        Asked::Ending,
+        Some((
+            3,
+            Some(End::Trapped {
+                kind: TrapKind::DivideByZero,
+            }),
+        )),
+    ),
+    (&LACKING, Asked::Ending, Some((2, Some(End::NoReply)))),
+    (&MISFIT, Asked::Ending, Some((2, Some(End::BadReply)))),
+    (&CUT_QUARTER, Asked::Ending, Some((2, Some(End::FuelSpent)))),
+    // A division goes to each step, places are found behind the step, replies write again, and a
+    // start function is run again.
+    (&QUARTER, Asked::Divides, HELD),
+    (&DIVIDED_BY_ZERO, Asked::Finds, HELD),
+    (&WRITING, Asked::Writes, HELD),
+    (&STARTED_BY_SEVEN, Asked::Sets, HELD),
+    // A run is covered to its end, up to a trap, and without lines.
+    (&LINES, Asked::Covers(&TO_THE_END), HELD),
+    (&LINES, Asked::Covers(&UP_TO_A_TRAP), HELD),
+    (&LINES, Asked::Covers(&WITHOUT_LINES), HELD),
+];
+
+fn is_told(alloc: Global, row: &Row) -> bool {
+    ask_both(alloc, row.0, &row.1) == row.2
+}
+
+/// The number of the first row that is not told so.
+fn first_wrong(alloc: Global) -> Option<usize> {
+    for (i, row) in ROWS.iter().enumerate() {
+        if !is_told(alloc, row) {
+            return Some(i);
+        }
+    }
+    None
 }
 
 #[test]
-fn runs_end_otherwise(rt: HostRuntime) {
-    let kind = TrapKind::DivideByZero;
-    let trapped = ends(rt.alloc(), division(&BY_ZERO, 9), 3, End::Trapped { kind });
-    let lacking = ends(rt.alloc(), call(&READING, &[], b""), 2, End::NoReply);
-    let misfit = ends(
-        rt.alloc(),
-        call(&READING, &[], b"i64:9\n"),
-        2,
-        End::BadReply,
-    );
-    let spent = ends(rt.alloc(), division(&QUARTER, 2), 2, End::FuelSpent);
-    assert!(rt; trapped && lacking && misfit && spent);
+fn runs_are_replayed(rt: HostRuntime) {
+    assert_eq!(rt; first_wrong(rt.alloc()), None);
 }
 
-#[test]
-fn a_division_goes_to_each_step(rt: HostRuntime) {
-    assert!(rt; holds(rt.alloc(), division(&QUARTER, 9), Asked::Divides));
-}
-
-#[test]
-fn places_are_found_behind_the_step(rt: HostRuntime) {
-    assert!(rt; holds(rt.alloc(), division(&BY_ZERO, 9), Asked::Finds));
-}
-
-#[test]
-fn replies_write_again(rt: HostRuntime) {
-    assert!(rt; holds(rt.alloc(), call(&READING, &[], WRITING), Asked::Writes));
-}
-
-#[test]
-fn a_start_function_is_run_again(rt: HostRuntime) {
-    let seven = [Value::I32(7)];
-    assert!(rt; holds(rt.alloc(), call(&STARTED, &seven, b""), Asked::Sets));
-}
+const STATES: [&Case; 5] = [
+    &DIVIDED_BY_ZERO,
+    &BRANCHED,
+    &DEEP,
+    &WRITING,
+    &STARTED_BY_FIVE,
+];
 
 #[test]
 fn states_do_not_depend_on_checkpoints(rt: HostRuntime) {
-    let alloc = rt.alloc();
-    let five = [Value::I32(5)];
-    let deep = [Value::I32(30)];
-    let divided = same_states(alloc, division(&BY_ZERO, 9));
-    let branched = same_states(alloc, call(&TABLE_BRANCH, &five, b""));
-    let deeper = same_states(alloc, call(&RECURSIVE, &deep, b""));
-    let read = same_states(alloc, call(&READING, &[], WRITING));
-    let started = same_states(alloc, call(&STARTED, &five, b""));
-    assert!(rt; divided && branched && deeper && read && started);
+    for case in STATES {
+        assert!(rt; ask_both(rt.alloc(), case, &Asked::States).is_some());
+    }
 }
 
-/// A recursion of depth n makes 8 n + 5 steps. From 16 steps on there are 16 checkpoints one step
-/// apart at first, of which one goes for each that is added. Behind 37 steps, three gaps are wide, so
-/// that one more goes; behind 245, none is.
+/// A recursion, how far apart the first checkpoints are, and how many are kept. One of depth n makes
+/// 8 n + 5 steps. From 16 steps on there are 16 checkpoints one step apart at first, of which one
+/// goes for each that is added. Behind 37 steps, three gaps are wide, so that one more goes; behind
+/// 245, none is.
+const KEPT: [(&Case, u64, u64); 4] = [
+    (&LEAST_DEEP, 1, 13),
+    (&LESS_DEEP, 1, 15),
+    (&DEEP, 1, 16),
+    (&DEEP, 1_000, 1),
+];
+
 #[test]
 fn at_most_sixteen_checkpoints_stay(rt: HostRuntime) {
-    let alloc = rt.alloc();
-    let short = kept(alloc, 1, 1) == Told::Number(13);
-    let longer = kept(alloc, 4, 1) == Told::Number(15);
-    let longest = kept(alloc, 30, 1) == Told::Number(16);
-    let far = kept(alloc, 30, 1_000) == Told::Number(1);
-    assert!(rt; short && longer && longest && far);
+    for (case, every, count) in KEPT {
+        assert!(rt; ask(rt.alloc(), case, every, &Asked::Checkpoints) == Some((count, None)));
+    }
 }

@@ -1,4 +1,4 @@
-//! Steps by lines. The rows of the line program are those that llvm-dwarfdump 14 prints, and the
+//! Steps by lines, which `step_tests` asks for. The rows of the line program are those that llvm-dwarfdump 14 prints, and the
 //! steps of each line are the instructions between its row and the next one.
 
 ghost use Rattle.std.specs.Prelude.{true, false, [], None};
@@ -10,14 +10,13 @@ use line_coverage::Coverage;
 use linear_memory::Memory;
 use machine_steps::Tally;
 use std::alloc::Global;
-use wasm_decode::decode;
 use wasm_machine::Instance;
 use wasm_syntax::{FuncType, HostCall, Import, ModuleParts, Value};
-use wasm_validate::{Validated, validate};
+use wasm_validate::Validated;
 
 /// A function, exported as `f`, as a C compiler lays it out. Its last instruction but one is a load
 /// from where its argument points.
-const STRAIGHT: [u8; 92] = [
+pub const STRAIGHT: [u8; 92] = [
     0x00, 0x61, 0x73, 0x6d, 0x01, 0x00, 0x00, 0x00, 0x01, 0x06, 0x01, 0x60, 0x01, 0x7f, 0x01, 0x7f,
     0x03, 0x02, 0x01, 0x00, 0x05, 0x03, 0x01, 0x00, 0x01, 0x06, 0x07, 0x01, 0x7f, 0x01, 0x41, 0x80,
     0x08, 0x0b, 0x07, 0x05, 0x01, 0x01, 0x66, 0x00, 0x00, 0x0a, 0x31, 0x01, 0x2f, 0x01, 0x02, 0x7f,
@@ -71,116 +70,94 @@ impl<'a> HostSide for Silent<'a> {
     }
 }
 
-fn valid(alloc: Global) -> Option<Validated> {
-    match decode(alloc, &STRAIGHT) {
-        Ok(m) => validate(alloc, m).ok(),
-        Err(_) => None,
-    }
-}
-
-/// Invokes the function of a new instance with at most eight frames.
-fn cover(
-    alloc: Global,
-    tables: &Vec<&Lines<'_>>,
-    source: &ModuleParts,
-    instance: &mut Instance<'_>,
+/// A run, and its counts by lines.
+pub struct Covered {
+    /// Whether the line program is given.
+    with_lines: bool,
     argument: u32,
-) -> Option<Coverage>
-    requires { IsNew source.now instance.old }
-{
-    let mut hosts = Silent {
-        imports: source.imports.as_slice(),
-    };
-    let args = [Value::I32(argument)];
-    let Ok(mut tally) = Tally::new(alloc, source) else {
-        return None;
-    };
-    match instance.invoke_watched("f", &args, 8, 1000, &mut hosts, &mut tally) {
-        Ok(_) => match Coverage::of(alloc, tables, source, &tally) {
-            Ok(coverage) => Some(coverage),
-            Err(_) => None,
-        },
-        Err(_) => None,
-    }
+    /// The lines of the first file and their counts, and no others.
+    counts: &'static [(u32, u64)],
+    /// How many steps fell on no line.
+    unplaced: u64,
+    steps: u64,
 }
 
-/// The counts of a new instance's first invocation on this argument.
-fn coverage_of(alloc: Global, tables: &Vec<&Lines<'_>>, argument: u32) -> Option<Coverage> {
-    let source = valid(alloc)?;
-    match Instance::new(alloc, &source) {
-        Ok(mut instance) => cover(
-            alloc,
-            tables,
-            source.module().parts(),
-            &mut instance,
-            argument,
-        ),
-        Err(_) => None,
-    }
-}
+pub const TO_THE_END: Covered = Covered {
+    with_lines: true,
+    argument: 0,
+    counts: &[(2, 5), (3, 3), (4, 9), (5, 3)],
+    unplaced: 0,
+    steps: 20,
+};
 
-/// Whether the lines of the first file with these numbers, and no others, have these counts, and so
-/// many steps fell on no line.
-fn has_counts(coverage: &Coverage, counts: &[(u32, u64)], unplaced: u64, steps: u64) -> bool {
-    let mut same = coverage.unplaced() == unplaced && coverage.steps() == steps;
-    same = same && coverage.lines().len() == counts.len();
-    for (line, count) in counts {
+pub const UP_TO_A_TRAP: Covered = Covered {
+    with_lines: true,
+    argument: 65536,
+    counts: &[(2, 5), (3, 3), (4, 9), (5, 2)],
+    unplaced: 0,
+    steps: 19,
+};
+
+pub const WITHOUT_LINES: Covered = Covered {
+    with_lines: false,
+    argument: 0,
+    counts: &[],
+    unplaced: 20,
+    steps: 20,
+};
+
+fn has_counts(coverage: &Coverage, row: &Covered) -> bool {
+    let mut same = coverage.unplaced() == row.unplaced && coverage.steps() == row.steps;
+    same = same && coverage.lines().len() == row.counts.len();
+    for (line, count) in row.counts {
         same = same && coverage.count(0, 1, *line) == *count;
     }
     same
 }
 
-/// Whether a run on this argument has these counts, by the line program or by none.
-fn covers(
+/// Invokes the function of a new instance with at most eight frames.
+fn is_covered(
     alloc: Global,
-    with_lines: bool,
-    argument: u32,
-    counts: &[(u32, u64)],
-    unplaced: u64,
-    steps: u64,
-) -> bool {
+    tables: &Vec<&Lines<'_>>,
+    source: &ModuleParts,
+    instance: &mut Instance<'_>,
+    row: &Covered,
+) -> bool
+    requires { IsNew source.now instance.old }
+{
+    let mut hosts = Silent {
+        imports: source.imports.as_slice(),
+    };
+    let args = [Value::I32(row.argument)];
+    let Ok(mut tally) = Tally::new(alloc, source) else {
+        return false;
+    };
+    match instance.invoke_watched("f", &args, 8, 1000, &mut hosts, &mut tally) {
+        Ok(_) => match Coverage::of(alloc, tables, source, &tally) {
+            Ok(coverage) => has_counts(&coverage, row),
+            Err(_) => false,
+        },
+        Err(_) => false,
+    }
+}
+
+fn covers_by(alloc: Global, tables: &Vec<&Lines<'_>>, source: &Validated, row: &Covered) -> bool {
+    match Instance::new(alloc, source) {
+        Ok(mut instance) => {
+            is_covered(alloc, tables, source.module().parts(), &mut instance, row)
+        }
+        Err(_) => false,
+    }
+}
+
+/// Whether the first invocation of a new instance has these counts.
+pub fn covers(alloc: Global, source: &Validated, row: &Covered) -> bool {
     let Ok(lines) = read_lines(alloc, &PROGRAM, 0) else {
         return false;
     };
     let mut tables = Vec::new(alloc);
-    if with_lines && tables.push(&lines).is_err() {
+    if row.with_lines && tables.push(&lines).is_err() {
         return false;
     }
-    match coverage_of(alloc, &tables, argument) {
-        Some(coverage) => has_counts(&coverage, counts, unplaced, steps),
-        None => false,
-    }
-}
-
-#[test]
-fn a_run_to_its_end(rt: HostRuntime) {
-    assert!(rt;
-        covers(
-            rt.alloc(),
-            true,
-            0,
-            &[(2, 5), (3, 3), (4, 9), (5, 3)],
-            0,
-            20
-        )
-    );
-}
-
-#[test]
-fn a_run_up_to_a_trap(rt: HostRuntime) {
-    assert!(rt;
-        covers(
-            rt.alloc(),
-            true,
-            65536,
-            &[(2, 5), (3, 3), (4, 9), (5, 2)],
-            0,
-            19
-        )
-    );
-}
-
-#[test]
-fn a_run_without_lines(rt: HostRuntime) {
-    assert!(rt; covers(rt.alloc(), false, 0, &[], 20, 20));
+    covers_by(alloc, &tables, source, row)
 }

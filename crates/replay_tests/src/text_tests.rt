@@ -5,7 +5,6 @@ use pm_outside::MemFiles;
 use pm_text::Text;
 use replay_command::{ReplayWords, replay_file};
 use std::alloc::Global;
-use std::test::Fail;
 use test_modules::{DIVISION, READING, RECURSIVE, STARTING, TABLE_BRANCH};
 use wasm_syntax::{Value, Values};
 
@@ -35,24 +34,62 @@ fn words(alloc: Global, row: &Row<'_>, every: u64) -> Result<ReplayWords, NoMemo
     })
 }
 
-fn is_printed(alloc: Global, row: &Row<'_>, every: u64) -> Result<bool, Fail> {
-    let mut files = MemFiles::new(alloc, Vec::new(alloc));
-    files.add("m", row.0)?;
-    files.add("log", row.1)?;
-    let words = words(alloc, row, every)?;
-    let outcome = replay_file(alloc, &mut files, &words)?;
-    Ok(outcome.status.code() == row.6 && outcome.text.as_str() == row.7)
+fn prints(
+    alloc: Global,
+    files: &mut MemFiles,
+    words: &ReplayWords,
+    status: u8,
+    text: &str,
+) -> bool {
+    match replay_file(alloc, files, words) {
+        Ok(outcome) => outcome.status.code() == status && outcome.text.as_str() == text,
+        Err(_) => false,
+    }
 }
 
-/// The number of the first row that is not printed so, or how many rows there are. The text does
-/// not depend on how far checkpoints stand apart.
-fn first_wrong(alloc: Global, rows: &[Row<'_>]) -> Result<usize, Fail> {
+/// Whether this is printed where these files are there.
+fn prints_of(
+    alloc: Global,
+    source: Option<&[u8]>,
+    log: Option<&[u8]>,
+    words: &ReplayWords,
+    status: u8,
+    text: &str,
+) -> bool {
+    let mut files = MemFiles::new(alloc, Vec::new(alloc));
+    if let Some(bytes) = source
+        && files.add("m", bytes).is_err()
+    {
+        return false;
+    }
+    if let Some(bytes) = log
+        && files.add("log", bytes).is_err()
+    {
+        return false;
+    }
+    prints(alloc, &mut files, words, status, text)
+}
+
+fn is_printed_by(alloc: Global, row: &Row<'_>, every: u64) -> bool {
+    match words(alloc, row, every) {
+        Ok(words) => prints_of(alloc, Some(row.0), Some(row.1), &words, row.6, row.7),
+        Err(_) => false,
+    }
+}
+
+/// The text does not depend on how far checkpoints stand apart.
+fn is_printed(alloc: Global, row: &Row<'_>) -> bool {
+    is_printed_by(alloc, row, 1) && is_printed_by(alloc, row, 1_000)
+}
+
+/// The number of the first row that is not printed so.
+fn first_wrong(alloc: Global, rows: &[Row<'_>]) -> Option<usize> {
     for (i, row) in rows.iter().enumerate() {
-        if !is_printed(alloc, row, 1)? || !is_printed(alloc, row, 1_000)? {
-            return Ok(i);
+        if !is_printed(alloc, row) {
+            return Some(i);
         }
     }
-    Ok(rows.len())
+    None
 }
 
 const MOVES: [Row<'static>; 9] = [
@@ -148,12 +185,6 @@ const MOVES: [Row<'static>; 9] = [
     ),
 ];
 
-#[test]
-fn moves_are_printed(rt: HostRuntime) -> Result<(), Fail> {
-    assert_eq!(rt; first_wrong(rt.alloc(), &MOVES)?, MOVES.len());
-    Ok(())
-}
-
 const LOOKS: [Row<'static>; 5] = [
     (
         &DIVISION,
@@ -208,12 +239,6 @@ const LOOKS: [Row<'static>; 5] = [
         "bad command\n",
     ),
 ];
-
-#[test]
-fn looks_are_printed(rt: HostRuntime) -> Result<(), Fail> {
-    assert_eq!(rt; first_wrong(rt.alloc(), &LOOKS)?, LOOKS.len());
-    Ok(())
-}
 
 /// Each step of the three ways that a branch by a table goes: the argument, the step, and the text
 /// of `goto`, of the frame and of its operands.
@@ -422,8 +447,7 @@ const STEPS: [(u32, &str, &str); 39] = [
     ),
 ];
 
-/// Whether a step is printed so, however far checkpoints stand apart.
-fn is_step(alloc: Global, argument: u32, commands: &str, text: &str) -> Result<bool, Fail> {
+fn is_step(alloc: Global, argument: u32, commands: &str, text: &str) -> bool {
     let args = [Value::I32(argument)];
     let row = (
         TABLE_BRANCH.as_slice(),
@@ -435,15 +459,14 @@ fn is_step(alloc: Global, argument: u32, commands: &str, text: &str) -> Result<b
         0,
         text,
     );
-    Ok(is_printed(alloc, &row, 1)? && is_printed(alloc, &row, 1_000)?)
+    is_printed(alloc, &row)
 }
 
 #[test]
-fn each_step_of_a_branch_is_printed(rt: HostRuntime) -> Result<(), Fail> {
+fn each_step_of_a_branch_is_printed(rt: HostRuntime) {
     for (argument, commands, text) in STEPS {
-        assert!(rt; is_step(rt.alloc(), argument, commands, text)?, "{text}");
+        assert!(rt; is_step(rt.alloc(), argument, commands, text), "{text}");
     }
-    Ok(())
 }
 
 const REFUSALS: [Row<'static>; 4] = [
@@ -489,26 +512,25 @@ const REFUSALS: [Row<'static>; 4] = [
     ),
 ];
 
+const TABLES: [&[Row<'static>]; 3] = [&MOVES, &LOOKS, &REFUSALS];
+
 #[test]
-fn refusals_are_told(rt: HostRuntime) -> Result<(), Fail> {
-    assert_eq!(rt; first_wrong(rt.alloc(), &REFUSALS)?, REFUSALS.len());
-    Ok(())
+fn moves_looks_and_refusals_are_printed(rt: HostRuntime) {
+    for rows in TABLES {
+        assert_eq!(rt; first_wrong(rt.alloc(), rows), None);
+    }
 }
 
 /// Whether a file that is missing is told, where only these bytes of a module are there.
-fn misses(alloc: Global, source: Option<&[u8]>, text: &str) -> Result<bool, Fail> {
-    let mut files = MemFiles::new(alloc, Vec::new(alloc));
-    if let Some(bytes) = source {
-        files.add("m", bytes)?;
+fn misses(alloc: Global, source: Option<&[u8]>, text: &str) -> bool {
+    match words(alloc, &MOVES[0], 1) {
+        Ok(words) => prints_of(alloc, source, None, &words, 3, text),
+        Err(_) => false,
     }
-    let words = words(alloc, &MOVES[0], 1)?;
-    let outcome = replay_file(alloc, &mut files, &words)?;
-    Ok(outcome.status.code() == 3 && outcome.text.as_str() == text)
 }
 
 #[test]
-fn files_are_read_before_they_are_judged(rt: HostRuntime) -> Result<(), Fail> {
-    assert!(rt; misses(rt.alloc(), None, "no file: \"m\"\n")?);
-    assert!(rt; misses(rt.alloc(), Some(b"\0asm"), "no file: \"log\"\n")?);
-    Ok(())
+fn files_are_read_before_they_are_judged(rt: HostRuntime) {
+    assert!(rt; misses(rt.alloc(), None, "no file: \"m\"\n"));
+    assert!(rt; misses(rt.alloc(), Some(b"\0asm"), "no file: \"log\"\n"));
 }

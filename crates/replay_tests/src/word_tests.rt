@@ -3,7 +3,6 @@
 use commands::WordsFault;
 use replay_command::{Move, ReplayWords, read_move, replay_words};
 use std::alloc::{AllocError, Global};
-use std::test::Fail;
 use wasm_syntax::Value;
 
 const MOVES: [(&str, Move); 20] = [
@@ -46,14 +45,6 @@ const MOVES: [(&str, Move); 20] = [
     ("", Move::Look),
 ];
 
-#[test]
-fn moves_are_read(rt: HostRuntime) -> Result<(), Fail> {
-    for (text, wanted) in &MOVES {
-        assert!(rt; read_move(text) == *wanted);
-    }
-    Ok(())
-}
-
 fn words_of(alloc: Global, words: &[&str]) -> Result<Vec<String>, AllocError> {
     let mut list = Vec::new(alloc);
     for word in words {
@@ -69,48 +60,71 @@ fn read(alloc: Global, words: &[&str]) -> Result<ReplayWords, WordsFault> {
     }
 }
 
-#[test]
-fn options_have_defaults(rt: HostRuntime) -> Result<(), Fail> {
-    let words = ["d.wasm", "log", "div", "i32:7", "i64:0"];
-    let Ok(words) = read(rt.alloc(), &words) else {
-        return Err(Fail::from("refused"));
-    };
-    assert_eq!(rt; words.source.as_str(), "d.wasm");
-    assert_eq!(rt; words.log.as_str(), "log");
-    assert_eq!(rt; words.entry.as_str(), "div");
-    assert!(rt; words.args.as_slice() == [Value::I32(7), Value::I64(0)].as_slice());
-    assert_eq!(rt; words.fuel, 100_000_000);
-    assert_eq!(rt; words.depth, 1_000);
-    assert_eq!(rt; words.every, 1_000);
-    assert_eq!(rt; words.commands.as_str(), "goto 0");
-    Ok(())
+/// Words, and what they mean.
+struct Meant {
+    words: &'static [&'static str],
+    source: &'static str,
+    log: &'static str,
+    entry: &'static str,
+    args: &'static [Value],
+    fuel: u64,
+    depth: u32,
+    every: u64,
+    commands: &'static str,
 }
 
-#[test]
-fn options_stand_anywhere(rt: HostRuntime) -> Result<(), Fail> {
-    let words = [
-        "--do",
-        "goto 2;operands",
-        "m",
-        "--every=1000000",
-        "+",
-        "--fuel",
-        "0",
-        "+",
-        "--depth=10000",
-    ];
-    let Ok(words) = read(rt.alloc(), &words) else {
-        return Err(Fail::from("refused"));
-    };
-    assert_eq!(rt; words.source.as_str(), "m");
-    assert_eq!(rt; words.log.as_str(), "+");
-    assert_eq!(rt; words.entry.as_str(), "+");
-    assert!(rt; words.args.as_slice().is_empty());
-    assert_eq!(rt; words.fuel, 0);
-    assert_eq!(rt; words.depth, 10_000);
-    assert_eq!(rt; words.every, 1_000_000);
-    assert_eq!(rt; words.commands.as_str(), "goto 2;operands");
-    Ok(())
+/// Options have defaults, and stand anywhere.
+const MEANT: [Meant; 2] = [
+    Meant {
+        words: &["d.wasm", "log", "div", "i32:7", "i64:0"],
+        source: "d.wasm",
+        log: "log",
+        entry: "div",
+        args: &[Value::I32(7), Value::I64(0)],
+        fuel: 100_000_000,
+        depth: 1_000,
+        every: 1_000,
+        commands: "goto 0",
+    },
+    Meant {
+        words: &[
+            "--do",
+            "goto 2;operands",
+            "m",
+            "--every=1000000",
+            "+",
+            "--fuel",
+            "0",
+            "+",
+            "--depth=10000",
+        ],
+        source: "m",
+        log: "+",
+        entry: "+",
+        args: &[],
+        fuel: 0,
+        depth: 10_000,
+        every: 1_000_000,
+        commands: "goto 2;operands",
+    },
+];
+
+fn means(words: &ReplayWords, meant: &Meant) -> bool {
+    words.source.as_str() == meant.source
+        && words.log.as_str() == meant.log
+        && words.entry.as_str() == meant.entry
+        && words.args.as_slice() == meant.args
+        && words.fuel == meant.fuel
+        && words.depth == meant.depth
+        && words.every == meant.every
+        && words.commands.as_str() == meant.commands
+}
+
+fn is_meant(alloc: Global, meant: &Meant) -> bool {
+    match read(alloc, meant.words) {
+        Ok(words) => means(&words, meant),
+        Err(_) => false,
+    }
 }
 
 const REFUSED: [&[&str]; 9] = [
@@ -126,9 +140,14 @@ const REFUSED: [&[&str]; 9] = [
 ];
 
 #[test]
-fn words_outside_the_rules_are_refused(rt: HostRuntime) -> Result<(), Fail> {
+fn moves_and_words_are_read_or_refused(rt: HostRuntime) {
+    for (text, wanted) in &MOVES {
+        assert!(rt; read_move(text) == *wanted);
+    }
+    for meant in &MEANT {
+        assert!(rt; is_meant(rt.alloc(), meant));
+    }
     for words in &REFUSED {
         assert!(rt; matches!(read(rt.alloc(), words), Err(WordsFault::Usage)));
     }
-    Ok(())
 }

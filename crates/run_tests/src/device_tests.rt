@@ -250,12 +250,18 @@ fn holds(alloc: Global, row: &Row) -> Result<bool, AllocError> {
     }
 }
 
-#[test]
-fn devices_serve_runs(rt: HostRuntime) -> Result<(), AllocError> {
-    for row in &ROWS {
-        assert!(rt; holds(rt.alloc(), row)?, "{}", row.line);
+fn all_hold(alloc: Global, rows: &[Row]) -> bool {
+    for row in rows {
+        if holds(alloc, row) != Ok(true) {
+            return false;
+        }
     }
-    Ok(())
+    true
+}
+
+#[test]
+fn devices_serve_runs(rt: HostRuntime) {
+    assert!(rt; all_hold(rt.alloc(), &ROWS));
 }
 
 /// A console that counts how many such devices are dropped.
@@ -333,8 +339,7 @@ const DONE: (u8, &str) = (0, "finished\nhost calls 2\n");
 const STOPPED: (u8, &str) = (9, "host stopped: device \"console\"\n");
 
 #[test]
-fn a_device_is_dropped_once(rt: HostRuntime) -> Result<(), AllocError> {
-    assert!(rt; is_dropped_once(rt.alloc(), 2, DONE)?);
-    assert!(rt; is_dropped_once(rt.alloc(), 1, STOPPED)?);
-    Ok(())
+fn a_device_is_dropped_once(rt: HostRuntime) {
+    assert!(rt; is_dropped_once(rt.alloc(), 2, DONE) == Ok(true));
+    assert!(rt; is_dropped_once(rt.alloc(), 1, STOPPED) == Ok(true));
 }

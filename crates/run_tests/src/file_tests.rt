@@ -2,22 +2,21 @@
 
 use crate::trial::{are_answered, files_of};
 use pm_outside::{MemFiles, Part};
-use std::alloc::{AllocError, Global};
-use std::test::Fail;
+use std::alloc::Global;
 use test_modules::{FAR_STORES, READING};
 
-/// A comment of so many bytes, without an end of its line.
-fn comment(alloc: Global, size: usize) -> Result<Vec<u8>, AllocError> {
-    vec![in alloc; b'#'; size]
+fn are_replies(alloc: Global, replies: &[u8], wanted: (u8, &str)) -> bool {
+    match files_of(alloc, &READING, replies, &[]) {
+        Ok(mut files) => are_answered(alloc, ["run m", "--replies r f"], &mut files, wanted),
+        Err(_) => false,
+    }
 }
 
-/// Whether a module that calls an import gets this from replies of so many bytes.
+/// Whether a module that calls an import gets this from replies of so many bytes, all of them in a
+/// comment without an end of its line.
 fn is_answered_at(alloc: Global, size: usize, wanted: (u8, &str)) -> bool {
-    let Ok(replies) = comment(alloc, size) else {
-        return false;
-    };
-    match files_of(alloc, &READING, &replies, &[]) {
-        Ok(mut files) => are_answered(alloc, ["run m", "--replies r f"], &mut files, wanted),
+    match Vec::from_elem(alloc, b'#', size) {
+        Ok(replies) => are_replies(alloc, &replies, wanted),
         Err(_) => false,
     }
 }
@@ -28,8 +27,8 @@ const TOO_LONG: (u8, &str) = (13, "limit: replies bytes 16777217 over 16777216\n
 
 #[test]
 fn long_replies_are_refused(rt: HostRuntime) {
-    assert!(rt; is_answered_at(rt.alloc(), 16_777_216, UNANSWERED));
-    assert!(rt; is_answered_at(rt.alloc(), 16_777_217, TOO_LONG));
+    let longest = is_answered_at(rt.alloc(), 16_777_216, UNANSWERED);
+    assert!(rt; longest && is_answered_at(rt.alloc(), 16_777_217, TOO_LONG));
 }
 
 const MODULE_FAULT: (u8, &str) = (4, "file fault: \"m\"\n");
@@ -64,23 +63,19 @@ fn are_stored(
         }
 }
 
-/// The first call that fails otherwise.
-fn first_wrong(alloc: Global) -> Option<u64> {
-    for (call, wanted, length) in FAULTS {
-        let is_right = match files_of(alloc, &FAR_STORES, b"", &[call]) {
-            Ok(mut files) => are_stored(alloc, &mut files, wanted, length),
-            Err(_) => false,
-        };
-        if !is_right {
-            return Some(call);
-        }
+/// Whether a call fails so.
+fn may_fail(alloc: Global, row: &(u64, (u8, &str), Option<usize>)) -> bool {
+    match files_of(alloc, &FAR_STORES, b"", &[row.0]) {
+        Ok(mut files) => are_stored(alloc, &mut files, row.1, row.2),
+        Err(_) => false,
     }
-    None
 }
 
 #[test]
 fn a_memory_is_written_page_by_page(rt: HostRuntime) {
-    assert_eq!(rt; first_wrong(rt.alloc()), None);
+    for row in &FAULTS {
+        assert!(rt; may_fail(rt.alloc(), row), "{}", row.0);
+    }
 }
 
 /// The module's header, and the id and size of the first section.
@@ -88,20 +83,13 @@ const FRONT: [u8; 10] = [0x00, 0x61, 0x73, 0x6D, 0x01, 0x00, 0x00, 0x00, 0x00, 0
 
 /// Whether the call that adds the head of a dump, and fails behind its first ten bytes, leaves
 /// these.
-fn is_front_left(alloc: Global) -> Result<bool, Fail> {
-    let mut files = files_of(alloc, &FAR_STORES, b"", &[3])?;
-    let part = Part { call: 3, bytes: 10 };
-    files.take_parts(Vec::from_slice(alloc, &[part])?);
-    Ok(
-        are_stored(alloc, &mut files, DUMP_FAULT, Some(10))
-            && files.get("core.wasm") == Some(FRONT.as_slice()),
-    )
-}
-
-#[test]
-fn a_failing_append_leaves_a_front(rt: HostRuntime) -> Result<(), Fail> {
-    assert!(rt; is_front_left(rt.alloc())?);
-    Ok(())
+fn is_front_left(alloc: Global, files: &mut MemFiles) -> bool {
+    match Vec::from_slice(alloc, &[Part { call: 3, bytes: 10 }]) {
+        Ok(parts) => files.take_parts(parts),
+        Err(_) => return false,
+    }
+    are_stored(alloc, files, DUMP_FAULT, Some(10))
+        && files.get("core.wasm") == Some(FRONT.as_slice())
 }
 
 const TRAPPED: (u8, &str) = (
@@ -126,10 +114,11 @@ const PIECES: [(usize, &[u8]); 3] = [
 ];
 
 /// Whether a dump has the pieces.
-fn has_pieces(dump: &[u8]) -> bool {
-    for (at, piece) in PIECES {
-        match dump.get(at..) {
-            Some(rest) if rest.starts_with(piece) => {}
+fn has_pieces(dump: Option<&[u8]>, pieces: &[(usize, &[u8])]) -> bool {
+    let Some(dump) = dump else { return false };
+    for piece in pieces {
+        match dump.get(piece.0..) {
+            Some(rest) if rest.starts_with(piece.1) => {}
             _ => return false,
         }
     }
@@ -137,18 +126,30 @@ fn has_pieces(dump: &[u8]) -> bool {
 }
 
 /// Whether far stores leave a dump with the pieces.
-fn are_pages_alone(alloc: Global) -> bool {
-    let Ok(mut files) = files_of(alloc, &FAR_STORES, b"", &[]) else {
-        return false;
-    };
-    are_stored(alloc, &mut files, TRAPPED, Some(131_194))
-        && match files.get("core.wasm") {
-            Some(dump) => has_pieces(dump),
-            None => false,
-        }
+fn are_pages_alone(alloc: Global, files: &mut MemFiles) -> bool {
+    are_stored(alloc, files, TRAPPED, Some(131_194)) && has_pieces(files.get("core.wasm"), &PIECES)
+}
+
+/// What is asked of far stores.
+#[derive(Clone, Copy)]
+enum Asked {
+    /// The call that adds the head of the dump fails behind a part of it.
+    Front,
+    /// No call fails.
+    Pages,
+}
+
+fn is_so(alloc: Global, asked: Asked, failing: &[u64]) -> bool {
+    match files_of(alloc, &FAR_STORES, b"", failing) {
+        Ok(mut files) => match asked {
+            Asked::Front => is_front_left(alloc, &mut files),
+            Asked::Pages => are_pages_alone(alloc, &mut files),
+        },
+        Err(_) => false,
+    }
 }
 
 #[test]
 fn far_pages_are_written_alone(rt: HostRuntime) {
-    assert!(rt; are_pages_alone(rt.alloc()));
+    assert!(rt; is_so(rt.alloc(), Asked::Front, &[3]) && is_so(rt.alloc(), Asked::Pages, &[]));
 }

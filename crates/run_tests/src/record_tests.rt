@@ -6,8 +6,7 @@ use crate::trial::{are_answered, are_served, files_of};
 use host_devices::Counter;
 use host_set::{DeviceSet, Devices};
 use pm_outside::MemFiles;
-use std::alloc::Global;
-use std::test::Fail;
+use std::alloc::{AllocError, Global};
 use test_modules::{HANDING, READING, TWICE_NEXT};
 
 /// The words behind `run m`, replies in the file `r`, the status and the text, and what the file
@@ -106,57 +105,61 @@ fn is_recorded(alloc: Global, source: &[u8], row: &Row) -> bool {
     }
 }
 
-/// The words of the first row that is recorded otherwise.
-fn first_wrong(alloc: Global) -> Option<&'static str> {
-    for row in &ROWS {
-        if !is_recorded(alloc, &READING, row) {
-            return Some(row.line);
-        }
-    }
-    None
-}
-
-#[test]
-fn replies_that_fit_are_recorded(rt: HostRuntime) {
-    assert_eq!(rt; first_wrong(rt.alloc()), None);
-}
-
 /// A run whose calls of the collector are torn.
-const TORN: Row = Row {
+const TORN: [Row; 1] = [Row {
     line: "--collect --record log g",
     replies: "",
     status: 16,
     text: "torn calls at 0\n",
     record: Some(""),
-};
+}];
+
+fn are_recorded(alloc: Global, source: &[u8], rows: &[Row]) -> bool {
+    for row in rows {
+        if !is_recorded(alloc, source, row) {
+            return false;
+        }
+    }
+    true
+}
 
 #[test]
-fn runs_with_torn_calls_are_recorded(rt: HostRuntime) {
-    assert!(rt; is_recorded(rt.alloc(), &HANDING, &TORN));
+fn replies_that_fit_are_recorded(rt: HostRuntime) {
+    assert!(rt; are_recorded(rt.alloc(), &READING, &ROWS));
+    assert!(rt; are_recorded(rt.alloc(), &HANDING, &TORN));
 }
 
-/// Whether what a device replies to two calls is recorded, in place of the module.
-fn is_served(alloc: Global, files: &mut MemFiles, devices: &mut DeviceSet) -> bool
+const SERVED: (u8, &str) = (0, "finished i32:1\nhost calls 2\n");
+
+/// Whether what devices reply to two calls is recorded, in place of the module.
+fn is_served(alloc: Global, devices: &mut DeviceSet) -> bool
     requires { AreDistinct (names (⟦<DeviceSet as Devices>⟧.shown devices.old)) }
 {
-    let line = ["run m", "--record m f"];
-    let wanted = (0, "finished i32:1\nhost calls 2\n");
-    are_served(alloc, line, files, devices, wanted) && holds(files, "m", Some("i32:0\ni32:1\n"))
+    match files_of(alloc, &TWICE_NEXT, b"", &[]) {
+        Ok(mut files) => {
+            are_served(
+                alloc,
+                ["run m", "--record m f"],
+                &mut files,
+                devices,
+                SERVED,
+            ) && holds(&files, "m", Some("i32:0\ni32:1\n"))
+        }
+        Err(_) => false,
+    }
 }
 
-fn is_counter_recorded(alloc: Global, files: &mut MemFiles) -> Result<bool, Fail> {
+fn is_counter_recorded(alloc: Global) -> Result<bool, AllocError> {
     let mut devices = DeviceSet::new(alloc);
     match devices.attach(Box::new(alloc, Counter::new(alloc))?) {
-        Ok(_) => Ok(is_served(alloc, files, &mut devices)),
+        Ok(_) => Ok(is_served(alloc, &mut devices)),
         Err(_) => Ok(false),
     }
 }
 
 #[test]
-fn replies_of_devices_are_recorded(rt: HostRuntime) -> Result<(), Fail> {
-    let mut files = files_of(rt.alloc(), &TWICE_NEXT, b"", &[])?;
-    assert!(rt; is_counter_recorded(rt.alloc(), &mut files)?);
-    Ok(())
+fn replies_of_devices_are_recorded(rt: HostRuntime) {
+    assert!(rt; is_counter_recorded(rt.alloc()) == Ok(true));
 }
 
 const DUMP_FAULT: &str = "file fault: \"core.wasm\"\n";
@@ -174,33 +177,24 @@ const FAULTS: [(u64, &str, bool, bool); 4] = [
 ];
 
 /// Whether a call fails so.
-fn may_fail(alloc: Global, row: (u64, &str, bool, bool)) -> bool {
-    let (call, text, has_dump, has_record) = row;
-    match files_of(alloc, &READING, b"i32:9", &[call]) {
+fn may_fail(alloc: Global, row: &(u64, &str, bool, bool)) -> bool {
+    match files_of(alloc, &READING, b"i32:9", &[row.0]) {
         Ok(mut files) => {
             are_answered(
                 alloc,
                 ["run m", "--replies r --record log f"],
                 &mut files,
-                (4, text),
-            ) && files.get("core.wasm").is_some() == has_dump
-                && files.get("log").is_some() == has_record
+                (4, row.1),
+            ) && files.get("core.wasm").is_some() == row.2
+                && files.get("log").is_some() == row.3
         }
         Err(_) => false,
     }
 }
 
-/// The first call that fails otherwise.
-fn first_wrong_fault(alloc: Global) -> Option<u64> {
-    for row in FAULTS {
-        if !may_fail(alloc, row) {
-            return Some(row.0);
-        }
-    }
-    None
-}
-
 #[test]
 fn a_record_is_made_behind_the_dump(rt: HostRuntime) {
-    assert_eq!(rt; first_wrong_fault(rt.alloc()), None);
+    for row in &FAULTS {
+        assert!(rt; may_fail(rt.alloc(), row), "{}", row.0);
+    }
 }
