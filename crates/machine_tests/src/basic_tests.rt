@@ -1,13 +1,10 @@
 //! What another interpreter answers (V8, by Node.js 20), instruction by instruction.
 
-ghost use Rattle.std.specs.Prelude.{◌≤◌};
-
 use causes::NoMemory;
 use linear_memory::Memory;
 use machine_basics::{Globals, Performed, Shared, TrapKind, perform};
 use pm_text::Stack;
 use std::alloc::Global;
-use std::test::Fail;
 use wasm_syntax::{
     Basic, Binary, Compare, Convert, Load, Narrow32, Narrow64, Sign, Store, Unary, ValType, Value,
 };
@@ -15,20 +12,18 @@ use wasm_syntax::{
 /// An instruction, its operands, the deepest first, and its result or the cause of its trap.
 type Row<'a> = (Basic, &'a [Value], Result<Option<Value>, TrapKind>);
 
-/// A stack of these items, the last one on top.
-fn stack_of<T: Copy + Drop>(alloc: Global, items: &[T]) -> Result<Stack<T>, NoMemory> {
+/// A stack of these values, the last one on top.
+fn stack_of(alloc: Global, values: &[Value]) -> Result<Stack<Value>, NoMemory> {
     let mut stack = Stack::new(alloc);
-    for item in items {
-        stack.push(*item)?;
+    for value in values {
+        stack.push(*value)?;
     }
     Ok(stack)
 }
 
-/// Two globals, which are 7 and 8, and a memory of so many pages.
-fn shared(alloc: Global, pages: u32, max: u32) -> Result<Shared, NoMemory>
-    requires { (pages ≤ max) × (max ≤ 4096) }
-{
-    let memory = Memory::new(alloc, pages, max)?;
+/// Two globals, which are 7 and 8, and a memory of one page, which may have two.
+fn shared(alloc: Global) -> Result<Shared, NoMemory> {
+    let memory = Memory::new(alloc, 1, 2)?;
     let globals = Vec::from_slice(alloc, &[Value::I32(7), Value::I64(8)])?;
     Ok(Shared {
         globals: Globals::from_vec(globals),
@@ -46,24 +41,32 @@ fn is_wanted(performed: Performed, values: &Stack<Value>, row: &Row<'_>) -> bool
     }
 }
 
-fn holds(alloc: Global, shared: &mut Shared, row: &Row<'_>) -> Result<bool, NoMemory> {
-    let mut values = stack_of(alloc, row.1)?;
-    let performed = perform(&row.0, 0, &mut values, shared);
-    Ok(is_wanted(performed, &values, row))
+fn holds(alloc: Global, shared: &mut Shared, row: &Row<'_>) -> bool {
+    match stack_of(alloc, row.1) {
+        Ok(mut values) => {
+            let performed = perform(&row.0, 0, &mut values, shared);
+            is_wanted(performed, &values, row)
+        }
+        Err(_) => false,
+    }
 }
 
 /// The number of the first row that does not hold behind those before it, if there is one.
-fn first_wrong(
-    alloc: Global,
-    shared: &mut Shared,
-    rows: &[Row<'_>],
-) -> Result<Option<usize>, NoMemory> {
+fn first_wrong(alloc: Global, shared: &mut Shared, rows: &[Row<'_>]) -> Option<usize> {
     for (i, row) in rows.iter().enumerate() {
-        if !holds(alloc, shared, row)? {
-            return Ok(Some(i));
+        if !holds(alloc, shared, row) {
+            return Some(i);
         }
     }
-    Ok(None)
+    None
+}
+
+/// The same on new globals and a new memory. It is 0 where the host gives no memory.
+fn first_wrong_anew(alloc: Global, rows: &[Row<'_>]) -> Option<usize> {
+    match shared(alloc) {
+        Ok(mut shared) => first_wrong(alloc, &mut shared, rows),
+        Err(_) => Some(0),
+    }
 }
 
 const NUMBERS: [Row; 41] = [
@@ -273,14 +276,7 @@ const NUMBERS: [Row; 41] = [
     (Basic::Drop, &[Value::I32(9)], Ok(None)),
 ];
 
-#[test]
-fn numbers(rt: HostRuntime) -> Result<(), Fail> {
-    let mut shared = shared(rt.alloc(), 0, 0)?;
-    assert_eq!(rt; first_wrong(rt.alloc(), &mut shared, &NUMBERS)?, None);
-    Ok(())
-}
-
-/// One after another on a memory of one page, which may have two.
+/// One after another on the memory.
 const MEMORY: [Row; 57] = [
     (Basic::MemorySize, &[], Ok(Some(Value::I32(1)))),
     (
@@ -561,13 +557,6 @@ const MEMORY: [Row; 57] = [
     ),
 ];
 
-#[test]
-fn memory(rt: HostRuntime) -> Result<(), Fail> {
-    let mut shared = shared(rt.alloc(), 1, 2)?;
-    assert_eq!(rt; first_wrong(rt.alloc(), &mut shared, &MEMORY)?, None);
-    Ok(())
-}
-
 /// Two locals over a value of the frame below, by hand from Core 4.4.3, and how all values stand
 /// behind these instructions.
 const LOCALS: [Value; 3] = [Value::I32(99), Value::I32(1), Value::I64(2)];
@@ -584,9 +573,9 @@ const MOVES: [Basic; 9] = [
     Basic::Nop,
 ];
 
-const MOVED: [Value; 4] = [Value::I32(99), Value::I32(7), Value::I64(8), Value::I64(5)];
+const MOVED: &[Value] = &[Value::I32(99), Value::I32(7), Value::I64(8), Value::I64(5)];
 
-const MOVED_GLOBALS: [Value; 2] = [Value::I32(7), Value::I64(2)];
+const MOVED_GLOBALS: &[Value] = &[Value::I32(7), Value::I64(2)];
 
 /// Whether each instruction is performed, on a frame whose locals stand over one value.
 fn all_done(values: &mut Stack<Value>, shared: &mut Shared, instructions: &[Basic]) -> bool {
@@ -598,40 +587,69 @@ fn all_done(values: &mut Stack<Value>, shared: &mut Shared, instructions: &[Basi
     true
 }
 
-fn is_moved(values: &Stack<Value>, shared: &Shared) -> bool {
-    values.as_slice() == MOVED.as_slice() && shared.globals.as_slice() == MOVED_GLOBALS.as_slice()
+fn is_moved(values: &mut Stack<Value>, shared: &mut Shared) -> bool {
+    all_done(values, shared, &MOVES)
+        && values.as_slice() == MOVED
+        && shared.globals.as_slice() == MOVED_GLOBALS
+}
+
+fn moves(alloc: Global, shared: &mut Shared) -> bool {
+    match stack_of(alloc, &LOCALS) {
+        Ok(mut values) => is_moved(&mut values, shared),
+        Err(_) => false,
+    }
+}
+
+fn moves_anew(alloc: Global) -> bool {
+    match shared(alloc) {
+        Ok(mut shared) => moves(alloc, &mut shared),
+        Err(_) => false,
+    }
 }
 
 #[test]
-fn variables(rt: HostRuntime) -> Result<(), Fail> {
-    let mut shared = shared(rt.alloc(), 0, 0)?;
-    let mut values = stack_of(rt.alloc(), &LOCALS)?;
-    let done = all_done(&mut values, &mut shared, &MOVES);
-    assert!(rt; done && is_moved(&values, &shared));
-    Ok(())
+fn instructions(rt: HostRuntime) {
+    assert_eq!(rt; first_wrong_anew(rt.alloc(), &NUMBERS), None);
+    assert_eq!(rt; first_wrong_anew(rt.alloc(), &MEMORY), None);
+    assert!(rt; moves_anew(rt.alloc()));
 }
 
+const ONE_TO_FIVE: [Value; 5] = [
+    Value::I32(1),
+    Value::I32(2),
+    Value::I32(3),
+    Value::I32(4),
+    Value::I32(5),
+];
+
+const CHANGED: &[Value] = &[Value::I32(1), Value::I32(8), Value::I32(3), Value::I32(7)];
+
 /// Whether a stack of 1 to 5 is written over and looked at by places.
-fn is_changed(stack: &mut Stack<u32>) -> bool {
+fn is_changed(stack: &mut Stack<Value>) -> bool {
     stack.discard(1);
-    stack.set_top(7);
-    stack.set_at(1, 0, 8);
-    stack.as_slice() == [1, 8, 3, 7].as_slice()
-        && stack.at(1, 1) == Some(3)
+    stack.set_top(Value::I32(7));
+    stack.set_at(1, 0, Value::I32(8));
+    stack.as_slice() == CHANGED
+        && stack.at(1, 1) == Some(Value::I32(3))
         && stack.at(1, 3).is_none()
-        && stack.peek(3) == Some(1)
+        && stack.peek(3) == Some(Value::I32(1))
         && stack.peek(4).is_none()
 }
 
 /// Whether it keeps its two lowest elements then, and the upper one is taken.
-fn is_cut(stack: &mut Stack<u32>) -> bool {
+fn is_cut(stack: &mut Stack<Value>) -> bool {
     stack.keep(2);
-    stack.pop() == Some(8) && stack.len() == 1
+    stack.pop() == Some(Value::I32(8)) && stack.len() == 1
+}
+
+fn is_written_over(alloc: Global) -> bool {
+    match stack_of(alloc, &ONE_TO_FIVE) {
+        Ok(mut stack) => is_changed(&mut stack) && is_cut(&mut stack),
+        Err(_) => false,
+    }
 }
 
 #[test]
-fn stack(rt: HostRuntime) -> Result<(), Fail> {
-    let mut stack = stack_of(rt.alloc(), &[1u32, 2, 3, 4, 5])?;
-    assert!(rt; is_changed(&mut stack) && is_cut(&mut stack));
-    Ok(())
+fn stack(rt: HostRuntime) {
+    assert!(rt; is_written_over(rt.alloc()));
 }

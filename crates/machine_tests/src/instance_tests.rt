@@ -2,12 +2,12 @@
 
 ghost use Rattle.std.specs.Prelude.{◌≡◌, ◌<◌, ◌≤◌, length};
 
-use crate::modules::{DIFFERENCE, ROUND, SETTER, valid};
+use crate::asking::{Question, holds};
+use crate::modules::{DIFFERENCE, ROUND, SETTER};
 use crate::running::{Case, invoke};
 use causes::NoMemory;
 use pm_text::Items;
 use std::alloc::Global;
-use std::test::Fail;
 use wasm_decode::decode;
 use wasm_machine::{End, Instance};
 use wasm_syntax::{Import, Reply, Value};
@@ -15,7 +15,7 @@ use wasm_validate::Validated;
 
 /// What is invoked for 1,000 steps, the index of the function, the number of the first reply that
 /// it is given, how it ends, and the number of the next reply.
-type Row<'a> = (Case<'a>, u32, u64, End, u64);
+pub type Row<'a> = (Case<'a>, u32, u64, End, u64);
 
 /// `f` of a module with a function alone.
 const ROUNDS: [Row<'static>; 2] = [
@@ -115,30 +115,12 @@ fn comes_to(alloc: Global, source: &Validated, replies: &[Reply], row: &Row<'_>)
     }
 }
 
-fn holds(alloc: Global, replies: &[Reply], row: &Row<'_>) -> bool {
-    match valid(alloc, row.0.module) {
-        Some(source) => comes_to(alloc, &source, replies, row),
-        None => false,
+/// Whether a row holds of its module.
+pub fn keeps_of(alloc: Global, source: &Validated, row: &Row<'_>) -> bool {
+    match replies(alloc) {
+        Ok(replies) => comes_to(alloc, source, replies.as_slice(), row),
+        Err(_) => false,
     }
-}
-
-/// The number of the first row that does not hold, if there is one.
-fn first_wrong(alloc: Global, rows: &[Row<'_>]) -> Result<Option<usize>, NoMemory> {
-    let replies = replies(alloc)?;
-    let replies = replies.as_slice();
-    Ok(rows.iter().position(|row| !holds(alloc, replies, row)))
-}
-
-#[test]
-fn an_instance_keeps_its_invocation(rt: HostRuntime) -> Result<(), Fail> {
-    assert_eq!(rt; first_wrong(rt.alloc(), &ROUNDS)?, None);
-    Ok(())
-}
-
-#[test]
-fn a_run_takes_the_replies_in_order(rt: HostRuntime) -> Result<(), Fail> {
-    assert_eq!(rt; first_wrong(rt.alloc(), &DIFFERENCES)?, None);
-    Ok(())
 }
 
 const SETTING: Case<'static> = Case {
@@ -166,7 +148,8 @@ fn is_set(alloc: Global, instance: &mut Instance<'_>, imports: &[Import]) -> boo
     shows(instance, Value::I32(9), true)
 }
 
-fn sets(alloc: Global, source: &Validated) -> bool {
+/// Whether an invocation sets the only global of [`SETTER`].
+pub fn sets(alloc: Global, source: &Validated) -> bool {
     let parts = source.module().parts();
     if parts.globals.is_empty() {
         return false;
@@ -177,14 +160,6 @@ fn sets(alloc: Global, source: &Validated) -> bool {
     }
 }
 
-#[test]
-fn an_invocation_sets_a_global(rt: HostRuntime) {
-    match valid(rt.alloc(), &SETTER) {
-        Some(source) => assert!(rt; sets(rt.alloc(), &source)),
-        None => assert!(rt; false),
-    }
-}
-
 fn has_one_global(alloc: Global, bytes: &[u8]) -> bool {
     match decode(alloc, bytes) {
         Ok(module) => module.into_parts().globals.len() == 1,
@@ -192,7 +167,20 @@ fn has_one_global(alloc: Global, bytes: &[u8]) -> bool {
     }
 }
 
+/// The number of the first row that does not hold, if there is one.
+fn first_wrong(alloc: Global, rows: &[Row<'_>]) -> Option<usize> {
+    for (i, row) in rows.iter().enumerate() {
+        if !holds(alloc, row.0.module, &Question::Keeps(row)) {
+            return Some(i);
+        }
+    }
+    None
+}
+
 #[test]
-fn a_module_gives_up_its_parts(rt: HostRuntime) {
+fn an_instance_keeps_its_invocation(rt: HostRuntime) {
+    assert_eq!(rt; first_wrong(rt.alloc(), &ROUNDS), None);
+    assert_eq!(rt; first_wrong(rt.alloc(), &DIFFERENCES), None);
+    assert!(rt; holds(rt.alloc(), &SETTER, &Question::Sets));
     assert!(rt; has_one_global(rt.alloc(), &SETTER));
 }

@@ -3,6 +3,8 @@
 #![tactic(auto)]
 
 #[cfg(test)]
+mod asking;
+#[cfg(test)]
 mod basic_tests;
 #[cfg(test)]
 mod instance_tests;

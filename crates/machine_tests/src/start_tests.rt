@@ -3,7 +3,8 @@
 ghost use Rattle.std.specs.Prelude.{[], None};
 ghost use Rattle.host_set.specs.Sets.{AreDistinct, names};
 
-use crate::modules::{BOTH_OUT, DATA_OUT, FILLED, READING, valid};
+use crate::asking::{Question, holds};
+use crate::modules::{BOTH_OUT, DATA_OUT, FILLED, READING};
 use host_set::{DeviceSet, Devices, Hosts};
 use std::alloc::Global;
 use wasm_machine::{EntryFault, StartFault, Started, entry_fault, start};
@@ -32,38 +33,25 @@ fn is_wanted(answer: &Result<Started, StartFault>, fault: Option<StartFault>) ->
     }
 }
 
-fn starts(alloc: Global, bytes: &[u8], fault: Option<StartFault>) -> bool {
-    match valid(alloc, bytes) {
-        Some(source) => is_wanted(&start(alloc, source.module().parts()), fault),
-        None => false,
-    }
+/// The same of the start of a module.
+pub fn starts(alloc: Global, source: &Validated, fault: Option<StartFault>) -> bool {
+    is_wanted(&start(alloc, source.module().parts()), fault)
 }
 
-#[test]
-fn the_first_segment_that_is_out_is_told(rt: HostRuntime) {
-    let data = starts(
-        rt.alloc(),
-        &DATA_OUT,
-        Some(StartFault::DataOut { index: 1 }),
-    );
-    let both = starts(
-        rt.alloc(),
-        &BOTH_OUT,
-        Some(StartFault::ElementOut { index: 0 }),
-    );
-    assert!(rt; data && both);
-}
-
-#[test]
-fn later_segments_lie_over_earlier_ones(rt: HostRuntime) {
-    assert!(rt; starts(rt.alloc(), &FILLED, None));
-}
+const STARTS: [(&[u8], Option<StartFault>); 3] = [
+    // The first segment that is out is told.
+    (&DATA_OUT, Some(StartFault::DataOut { index: 1 })),
+    (&BOTH_OUT, Some(StartFault::ElementOut { index: 0 })),
+    // Later segments lie over earlier ones.
+    (&FILLED, None),
+];
 
 /// A module, an entry, its arguments, and why it may not be invoked where nobody serves imports, if
 /// so.
-type Row<'a> = (&'a [u8], &'a str, &'a [Value], Option<EntryFault>);
+pub type Row<'a> = (&'a [u8], &'a str, &'a [Value], Option<EntryFault>);
 
-const ENTRIES: [Row<'static>; 4] = [
+// An import that nobody serves is told last.
+const ENTRIES: [Row<'static>; 6] = [
     (&FILLED, "g", &[], Some(EntryFault::NoExport)),
     (&FILLED, "f", &[], Some(EntryFault::BadArguments)),
     (
@@ -73,9 +61,6 @@ const ENTRIES: [Row<'static>; 4] = [
         Some(EntryFault::BadArguments),
     ),
     (&FILLED, "f", &[Value::I32(7)], None),
-];
-
-const UNSERVED: [Row<'static>; 2] = [
     (
         &READING,
         "f",
@@ -94,24 +79,25 @@ fn is_judged<S: Devices>(alloc: Global, devices: S, source: &Validated, row: &Ro
     entry_fault(source, row.1, row.2, &hosts) == row.3
 }
 
-fn holds(alloc: Global, row: &Row<'_>) -> bool {
-    match valid(alloc, row.0) {
-        Some(source) => is_judged(alloc, DeviceSet::new(alloc), &source, row),
-        None => false,
-    }
+/// Whether a row holds of its module.
+pub fn judges(alloc: Global, source: &Validated, row: &Row<'_>) -> bool {
+    is_judged(alloc, DeviceSet::new(alloc), source, row)
 }
 
 /// The number of the first row that does not hold, if there is one.
 fn first_wrong(alloc: Global, rows: &[Row<'_>]) -> Option<usize> {
-    rows.iter().position(|row| !holds(alloc, row))
+    for (i, row) in rows.iter().enumerate() {
+        if !holds(alloc, row.0, &Question::Judges(row)) {
+            return Some(i);
+        }
+    }
+    None
 }
 
 #[test]
-fn an_entry_is_exported_and_takes_its_arguments(rt: HostRuntime) {
+fn starts_and_entries(rt: HostRuntime) {
+    for (i, row) in STARTS.iter().enumerate() {
+        assert!(rt; holds(rt.alloc(), row.0, &Question::Starts(row.1)), "{i}");
+    }
     assert_eq!(rt; first_wrong(rt.alloc(), &ENTRIES), None);
-}
-
-#[test]
-fn an_import_that_nobody_serves_is_told_last(rt: HostRuntime) {
-    assert_eq!(rt; first_wrong(rt.alloc(), &UNSERVED), None);
 }

@@ -2,7 +2,8 @@
 
 ghost use Rattle.std.specs.Prelude.{◌≡◌};
 
-use crate::modules::{ROUND, STRAIGHT, valid};
+use crate::asking::{Question, holds};
+use crate::modules::{ROUND, STRAIGHT};
 use host_set::ScriptHosts;
 use machine_steps::Tally;
 use std::alloc::Global;
@@ -12,19 +13,18 @@ use wasm_validate::Validated;
 
 /// A module with one function, its argument, the steps that it may make, and how many it makes at
 /// each of its instructions.
-type Row<'a> = (&'a [u8], u32, u32, &'a [u64]);
+pub type Row<'a> = (&'a [u8], u32, u32, &'a [u64]);
 
-const WHOLE: [Row<'static>; 1] = [(&STRAIGHT, 0, 1000, &[1; 20])];
-
-/// The last but one instruction traps.
-const TRAPPED: [Row<'static>; 1] = [(
-    &STRAIGHT,
-    65536,
-    1000,
-    &[1, 1, 1, 1, 1, 1, 1, 1, 1, 1, 1, 1, 1, 1, 1, 1, 1, 1, 1, 0],
-)];
-
-const SPENT: [Row<'static>; 3] = [
+const ROWS: [Row<'static>; 5] = [
+    (&STRAIGHT, 0, 1000, &[1; 20]),
+    // The last but one instruction traps.
+    (
+        &STRAIGHT,
+        65536,
+        1000,
+        &[1, 1, 1, 1, 1, 1, 1, 1, 1, 1, 1, 1, 1, 1, 1, 1, 1, 1, 1, 0],
+    ),
+    // No step is counted behind the fuel.
     (&ROUND, 0, 2, &[1, 1, 0, 0, 0]),
     (&ROUND, 0, 1000, &[1, 1, 1, 1, 1]),
     (&ROUND, 7, 1000, &[334, 333, 333, 0, 0]),
@@ -55,7 +55,8 @@ fn count(alloc: Global, source: &Validated, row: &Row<'_>, tally: &mut Tally) {
     }
 }
 
-fn counts(alloc: Global, source: &Validated, row: &Row<'_>) -> bool {
+/// Whether a row holds of its module.
+pub fn counts(alloc: Global, source: &Validated, row: &Row<'_>) -> bool {
     match Tally::new(alloc, source.module().parts()) {
         Ok(mut tally) => {
             count(alloc, source, row, &mut tally);
@@ -65,29 +66,9 @@ fn counts(alloc: Global, source: &Validated, row: &Row<'_>) -> bool {
     }
 }
 
-fn holds(alloc: Global, row: &Row<'_>) -> bool {
-    match valid(alloc, row.0) {
-        Some(source) => counts(alloc, &source, row),
-        None => false,
-    }
-}
-
-/// The number of the first row that does not hold, if there is one.
-fn first_wrong(alloc: Global, rows: &[Row<'_>]) -> Option<usize> {
-    rows.iter().position(|row| !holds(alloc, row))
-}
-
 #[test]
 fn each_step_is_counted_where_it_is_made(rt: HostRuntime) {
-    assert_eq!(rt; first_wrong(rt.alloc(), &WHOLE), None);
-}
-
-#[test]
-fn a_step_that_traps_is_counted(rt: HostRuntime) {
-    assert_eq!(rt; first_wrong(rt.alloc(), &TRAPPED), None);
-}
-
-#[test]
-fn no_step_is_counted_behind_the_fuel(rt: HostRuntime) {
-    assert_eq!(rt; first_wrong(rt.alloc(), &SPENT), None);
+    for (i, row) in ROWS.iter().enumerate() {
+        assert!(rt; holds(rt.alloc(), row.0, &Question::Counts(row)), "{i}");
+    }
 }
