@@ -2,7 +2,6 @@
 
 use dump_format::{Dump, DumpFault, DumpPart, Frame, decode_dump};
 use std::alloc::{AllocError, Global};
-use std::test::Fail;
 use wasm_syntax::{Quantity, Seen};
 
 /// A trap in a module of one function: one frame, no memory, no globals.
@@ -59,18 +58,6 @@ fn has_no_memory(dump: &Dump<'_>) -> bool {
     dump.memory.is_none() && dump.globals.is_empty() && dump.segments.is_empty()
 }
 
-fn is_trap_in(alloc: Global, bytes: &[u8]) -> bool {
-    match decode_dump(alloc, bytes) {
-        Ok(dump) => is_trap(&dump) && has_no_memory(&dump),
-        Err(_) => false,
-    }
-}
-
-#[test]
-fn a_trap_is_read(rt: HostRuntime) {
-    assert!(rt; is_trap_in(rt.alloc(), &TRAP));
-}
-
 fn has_segments(dump: &Dump<'_>) -> bool {
     dump.name.as_str() == ""
         && dump.memory == Some(1)
@@ -80,16 +67,45 @@ fn has_segments(dump: &Dump<'_>) -> bool {
         )
 }
 
-fn has_segments_in(alloc: Global, bytes: &[u8]) -> bool {
-    match decode_dump(alloc, bytes) {
-        Ok(dump) => has_segments(&dump),
-        Err(_) => false,
+/// What is asked of a dump.
+#[derive(Drop)]
+enum Asked {
+    Trap,
+    Segments,
+    /// Whether it has a memory of one page.
+    Page,
+    /// Whether it is refused so.
+    Refused(DumpFault),
+}
+
+fn answers(dump: &Dump<'_>, asked: &Asked) -> bool {
+    match asked {
+        Asked::Trap => is_trap(dump) && has_no_memory(dump),
+        Asked::Segments => has_segments(dump),
+        Asked::Page => dump.memory == Some(1),
+        Asked::Refused(_) => false,
     }
 }
 
+fn is_so(alloc: Global, bytes: &[u8], asked: &Asked) -> bool {
+    match decode_dump(alloc, bytes) {
+        Ok(dump) => answers(&dump, asked),
+        Err(found) => matches!(asked, Asked::Refused(fault) if found == *fault),
+    }
+}
+
+fn breaks_at(alloc: Global, bytes: &[u8], at: usize) -> bool {
+    is_so(alloc, bytes, &Asked::Refused(DumpFault::Malformed { at }))
+}
+
 #[test]
-fn segments_are_read(rt: HostRuntime) {
-    assert!(rt; has_segments_in(rt.alloc(), &SEGMENTS));
+fn dumps_are_read(rt: HostRuntime) {
+    let alloc = rt.alloc();
+    assert!(rt; is_so(alloc, &TRAP, &Asked::Trap));
+    assert!(rt; is_so(alloc, &SEGMENTS, &Asked::Segments));
+    // inputs that end early
+    assert!(rt; breaks_at(alloc, &[], 0) && breaks_at(alloc, &[0x00, 0x61, 0x73, 0x6E], 3));
+    assert!(rt; breaks_at(alloc, &CORE[..8], 8) && breaks_at(alloc, &TRAP[..99], 68));
 }
 
 /// The bytes of `CORE`, and others behind them.
@@ -101,61 +117,35 @@ fn with_core(alloc: Global, others: &[&[u8]]) -> Result<Vec<u8>, AllocError> {
     Ok(bytes)
 }
 
-fn has_a_page(alloc: Global, bytes: &[u8]) -> bool {
-    match decode_dump(alloc, bytes) {
-        Ok(dump) => dump.memory == Some(1),
-        Err(_) => false,
-    }
-}
-
-#[test]
-fn long_numbers_are_read(rt: HostRuntime) -> Result<(), Fail> {
-    let bytes = with_core(rt.alloc(), &[&[0x05, 0x05, 0x01, 0x00, 0x81, 0x80, 0x00]])?;
-    assert!(rt; has_a_page(rt.alloc(), &bytes));
-    Ok(())
-}
-
-fn is_refused(alloc: Global, bytes: &[u8], fault: DumpFault) -> bool {
-    match decode_dump(alloc, bytes) {
-        Ok(_) => false,
-        Err(found) => found == fault,
-    }
-}
-
-fn breaks_at(alloc: Global, bytes: &[u8], at: usize) -> bool {
-    is_refused(alloc, bytes, DumpFault::Malformed { at })
-}
-
-fn break_early(alloc: Global) -> bool {
-    breaks_at(alloc, &[], 0)
-        && breaks_at(alloc, &[0x00, 0x61, 0x73, 0x6E], 3)
-        && breaks_at(alloc, &CORE[..8], 8)
-        && breaks_at(alloc, &TRAP[..99], 68)
-}
-
-#[test]
-fn inputs_that_end_early_are_refused(rt: HostRuntime) {
-    assert!(rt; break_early(rt.alloc()));
-}
+/// What stands behind the header in `CORE`.
+const SECOND_CORE: [u8; 9] = [0x00, 0x07, 0x04, 0x63, 0x6F, 0x72, 0x65, 0x00, 0x00];
 
 const PAGE: [u8; 5] = [0x05, 0x03, 0x01, 0x00, 0x01];
 
-/// What stands behind `CORE`, and the fault.
-type Row = (&'static [&'static [u8]], DumpFault);
+/// What stands behind `CORE`, and what is asked of it.
+type Row = (&'static [&'static [u8]], Asked);
 
-const MALFORMED: [Row; 8] = [
+const BEHIND_CORE: [Row; 15] = [
+    // long numbers
+    (&[&[0x05, 0x05, 0x01, 0x00, 0x81, 0x80, 0x00]], Asked::Page),
     // a section twice, and one left over byte
-    (&[&PAGE, &PAGE], DumpFault::Malformed { at: 22 }),
+    (
+        &[&PAGE, &PAGE],
+        Asked::Refused(DumpFault::Malformed { at: 22 }),
+    ),
     (
         &[&[0x05, 0x04, 0x01, 0x00, 0x01, 0x00]],
-        DumpFault::Malformed { at: 22 },
+        Asked::Refused(DumpFault::Malformed { at: 22 }),
     ),
     // an id past 11
-    (&[&[0x0C, 0x00]], DumpFault::Malformed { at: 17 }),
+    (
+        &[&[0x0C, 0x00]],
+        Asked::Refused(DumpFault::Malformed { at: 17 }),
+    ),
     // a segment that is cut, one past the end, one without a memory
     (
         &[&PAGE, &[0x0B, 0x06, 0x01, 0x00, 0x41, 0x00, 0x0B, 0x02]],
-        DumpFault::Malformed { at: 30 },
+        Asked::Refused(DumpFault::Malformed { at: 30 }),
     ),
     (
         &[
@@ -164,81 +154,76 @@ const MALFORMED: [Row; 8] = [
                 0x0B, 0x0A, 0x01, 0x00, 0x41, 0xFF, 0xFF, 0x03, 0x0B, 0x02, 0xAA, 0xBB,
             ],
         ],
-        DumpFault::Malformed { at: 25 },
+        Asked::Refused(DumpFault::Malformed { at: 25 }),
     ),
     (
         &[&[0x0B, 0x06, 0x01, 0x00, 0x41, 0x00, 0x0B, 0x00]],
-        DumpFault::Malformed { at: 20 },
+        Asked::Refused(DumpFault::Malformed { at: 20 }),
     ),
     // a float that is cut, and an unknown tag of a global
     (
         &[&[0x06, 0x05, 0x01, 0x7C, 0x00, 0x44, 0x00]],
-        DumpFault::Malformed { at: 23 },
+        Asked::Refused(DumpFault::Malformed { at: 23 }),
     ),
     (
         &[&[0x06, 0x02, 0x01, 0x70]],
-        DumpFault::Malformed { at: 20 },
+        Asked::Refused(DumpFault::Malformed { at: 20 }),
     ),
-];
-
-/// What stands behind the header in `CORE`.
-const SECOND_CORE: [u8; 9] = [0x00, 0x07, 0x04, 0x63, 0x6F, 0x72, 0x65, 0x00, 0x00];
-
-const OTHERWISE_REFUSED: [Row; 6] = [
     // floats: a global, a local
     (
         &[&[
             0x06, 0x09, 0x01, 0x7D, 0x00, 0x43, 0x00, 0x00, 0x80, 0x3F, 0x0B,
         ]],
-        DumpFault::FloatValue { at: 20 },
+        Asked::Refused(DumpFault::FloatValue { at: 20 }),
     ),
-    (&[&FLOAT_STACK], DumpFault::FloatValue { at: 41 }),
+    (
+        &[&FLOAT_STACK],
+        Asked::Refused(DumpFault::FloatValue { at: 41 }),
+    ),
     // parts that stand twice, behind a float and before the limits
     (
         &[&SECOND_CORE, &FLOAT_STACK],
-        DumpFault::FloatValue { at: 50 },
+        Asked::Refused(DumpFault::FloatValue { at: 50 }),
     ),
     (
         &[&SECOND_CORE, &[0x05, 0x04, 0x01, 0x00, 0x81, 0x20]],
-        DumpFault::Several {
+        Asked::Refused(DumpFault::Several {
             part: DumpPart::Core,
-        },
+        }),
     ),
     (
         &[&[0x05, 0x05, 0x02, 0x00, 0x01, 0x00, 0x01]],
-        DumpFault::Several {
+        Asked::Refused(DumpFault::Several {
             part: DumpPart::Memory,
-        },
+        }),
     ),
     (
         &[&[0x05, 0x04, 0x01, 0x00, 0x81, 0x20]],
-        DumpFault::Limit {
+        Asked::Refused(DumpFault::Limit {
             what: Quantity::DumpPages,
             count: 4097,
-        },
+        }),
     ),
 ];
 
-fn is_refused_behind_core(alloc: Global, row: &Row) -> bool {
+fn is_so_behind_core(alloc: Global, row: &Row) -> bool {
     match with_core(alloc, row.0) {
-        Ok(bytes) => is_refused(alloc, &bytes, row.1),
+        Ok(bytes) => is_so(alloc, &bytes, &row.1),
         Err(_) => false,
     }
 }
 
-/// The number of the first row that does not hold, or how many rows there are.
-fn first_wrong(alloc: Global, rows: &[Row]) -> usize {
-    for (i, row) in rows.iter().enumerate() {
-        if !is_refused_behind_core(alloc, row) {
-            return i;
+/// The number of the first row that does not hold.
+fn first_wrong(alloc: Global) -> Option<usize> {
+    for (i, row) in BEHIND_CORE.iter().enumerate() {
+        if !is_so_behind_core(alloc, row) {
+            return Some(i);
         }
     }
-    rows.len()
+    None
 }
 
 #[test]
-fn refusals_name_the_place(rt: HostRuntime) {
-    assert_eq!(rt; first_wrong(rt.alloc(), &MALFORMED), MALFORMED.len());
-    let other = first_wrong(rt.alloc(), &OTHERWISE_REFUSED);
-    assert_eq!(rt; other, OTHERWISE_REFUSED.len());
+fn what_stands_behind_the_core(rt: HostRuntime) {
+    assert_eq!(rt; first_wrong(rt.alloc()), None);
 }

@@ -6,7 +6,6 @@ ghost use Rattle.format_tests.specs.inner.Samples.{divides, exported, narrow, di
 use causes::NoMemory;
 use pm_text::{Items, Text};
 use std::alloc::Global;
-use std::test::Fail;
 use wasm_decode::{DecodeFault, decode, function_names};
 use wasm_encode::encode;
 use wasm_syntax::{
@@ -72,65 +71,74 @@ fn is_division_at(op: &Op, at: u32) -> bool {
         )
 }
 
-fn has_division_in(alloc: Global, bytes: &[u8]) -> bool {
-    match decode(alloc, bytes) {
-        Ok(module) => has_division(module.parts()),
-        Err(_) => false,
+/// Whether the first function has this name.
+fn has_name(alloc: Global, bytes: &[u8], module: &Module, name: &str) -> bool {
+    if bytes.len() > 100 {
+        return false;
     }
-}
-
-#[test]
-fn a_division_is_read(rt: HostRuntime) {
-    assert!(rt; has_division_in(rt.alloc(), &DIVISION));
-}
-
-fn is_refused(alloc: Global, bytes: &[u8], fault: DecodeFault) -> bool {
-    match decode(alloc, bytes) {
-        Ok(_) => false,
-        Err(found) => found == fault,
-    }
-}
-
-fn breaks_at(alloc: Global, bytes: &[u8], at: usize) -> bool {
-    is_refused(alloc, bytes, DecodeFault::Malformed { at })
-}
-
-fn are_refused(alloc: Global) -> bool {
-    let limit = DecodeFault::Limit {
-        what: Quantity::Memory,
-        count: 4_097,
-    };
-    is_refused(alloc, &FLOAT_TYPE, DecodeFault::Float { at: 13 })
-        && is_refused(alloc, &MEMORY_IMPORT, DecodeFault::ImportKind { index: 0 })
-        && is_refused(alloc, &LARGE_MEMORY, limit)
-}
-
-#[test]
-fn refusals_name_the_place(rt: HostRuntime) {
-    // a size past the end
-    let cut = breaks_at(rt.alloc(), &DIVISION[..40], 31);
-    let long = breaks_at(rt.alloc(), &TOO_LONG, 14);
-    assert!(rt; cut && long && are_refused(rt.alloc()));
-}
-
-fn has_name(alloc: Global, bytes: &[u8; 54], module: &Module, name: &str) -> bool {
     match function_names(alloc, bytes, module) {
         Ok(names) => names.get(0) == Some(name),
         Err(_) => false,
     }
 }
 
-/// Whether the first function has this name.
-fn is_named(alloc: Global, bytes: &[u8; 54], name: &str) -> bool {
-    match decode(alloc, bytes) {
-        Ok(module) => has_name(alloc, bytes, &module, name),
-        Err(_) => false,
+/// What is asked of the bytes of a module.
+#[derive(Drop)]
+enum Asked<'a> {
+    /// Whether the third instruction is the division.
+    Division,
+    /// Whether the first function has this name.
+    Name(&'a str),
+    /// Whether it is this module, but for places.
+    Same(&'a Module),
+    /// Whether it is refused so.
+    Refused(DecodeFault),
+}
+
+fn answers(alloc: Global, bytes: &[u8], module: &Module, asked: &Asked<'_>) -> bool {
+    match asked {
+        Asked::Division => has_division(module.parts()),
+        Asked::Name(name) => has_name(alloc, bytes, module, name),
+        Asked::Same(other) => same_code(other, module),
+        Asked::Refused(_) => false,
     }
 }
 
+fn is_so(alloc: Global, bytes: &[u8], asked: &Asked<'_>) -> bool {
+    match decode(alloc, bytes) {
+        Ok(module) => answers(alloc, bytes, &module, asked),
+        Err(found) => matches!(asked, Asked::Refused(fault) if found == *fault),
+    }
+}
+
+fn breaks_at(alloc: Global, bytes: &[u8], at: usize) -> bool {
+    is_so(alloc, bytes, &Asked::Refused(DecodeFault::Malformed { at }))
+}
+
+const LIMIT: DecodeFault = DecodeFault::Limit {
+    what: Quantity::Memory,
+    count: 4_097,
+};
+
+const IMPORT: DecodeFault = DecodeFault::ImportKind { index: 0 };
+
 #[test]
-fn names_of_functions_are_read(rt: HostRuntime) {
-    assert!(rt; is_named(rt.alloc(), &NAMED, "q"));
+fn modules_are_read(rt: HostRuntime) {
+    let alloc = rt.alloc();
+    assert!(rt; is_so(alloc, &DIVISION, &Asked::Division));
+    assert!(rt; is_so(alloc, &NAMED, &Asked::Name("q")));
+    // a size past the end
+    assert!(rt; breaks_at(alloc, &DIVISION[..40], 31));
+    assert!(rt; breaks_at(alloc, &TOO_LONG, 14));
+    assert!(rt;
+        is_so(
+            alloc,
+            &FLOAT_TYPE,
+            &Asked::Refused(DecodeFault::Float { at: 13 })
+        )
+    );
+    assert!(rt; is_so(alloc, &MEMORY_IMPORT, &Asked::Refused(IMPORT)));
+    assert!(rt; is_so(alloc, &LARGE_MEMORY, &Asked::Refused(LIMIT)));
 }
 
 fn one<T: Drop>(alloc: Global, item: T) -> Result<Items<T>, NoMemory>
@@ -217,29 +225,26 @@ fn division_module(alloc: Global) -> Result<Module, NoMemory>
     Ok(Module::new(parts))
 }
 
-fn encoded_division(alloc: Global) -> Result<Vec<u8>, NoMemory> {
-    let module = division_module(alloc)?;
-    encode(alloc, &module)
-}
-
-/// Whether the bytes are read as this module, but for places.
-fn is_read(alloc: Global, bytes: &[u8], module: &Module) -> bool {
-    match decode(alloc, bytes) {
-        Ok(read) => same_code(module, &read),
+/// Whether the bytes of the division are written, and the module is read from them again.
+fn is_written(alloc: Global, source: &Module) -> bool
+    requires { source.now ≡ division }
+{
+    match encode(alloc, source) {
+        Ok(bytes) => {
+            bytes.as_slice() == DIVISION.as_slice() && is_so(alloc, &bytes, &Asked::Same(source))
+        }
         Err(_) => false,
     }
 }
 
-fn is_division(alloc: Global, bytes: &[u8]) -> bool {
+fn division_is_written(alloc: Global) -> bool {
     match division_module(alloc) {
-        Ok(module) => is_read(alloc, bytes, &module),
-        Err(NoMemory) => false,
+        Ok(module) => is_written(alloc, &module),
+        Err(_) => false,
     }
 }
 
 #[test]
-fn what_is_written_is_read_again(rt: HostRuntime) -> Result<(), Fail> {
-    let bytes = encoded_division(rt.alloc())?;
-    assert!(rt; bytes.as_slice() == DIVISION.as_slice() && is_division(rt.alloc(), &bytes));
-    Ok(())
+fn what_is_written_is_read_again(rt: HostRuntime) {
+    assert!(rt; division_is_written(rt.alloc()));
 }
