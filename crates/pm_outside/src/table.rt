@@ -54,7 +54,7 @@ impl Table {
     {
         let key = String::from_str(self.alloc, name)?;
         let bytes = Vec::from_slice(self.alloc, bytes)?;
-        self.files.insert(key, bytes)?;
+        drop(self.files.insert(key, bytes)?);
         Ok(())
     }
 
