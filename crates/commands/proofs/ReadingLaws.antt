@@ -1,8 +1,8 @@
 -- What the words that are left read as.
-use Rattle.std.proofs.Common.{◌≡◌, true, false, List, [], ◌∷◌, ◌++◌, map, Option, Some, None, refl, sym, ap, ◌∙◌, append_assoc}
+use Rattle.std.proofs.Common.{◌≡◌, ◌≤◌, true, false, List, [], ◌∷◌, ◌++◌, length, map, Option, Some, None, refl, sym, ap, subst, ◌∙◌, append_assoc}
 use Rattle.std.proofs.lemmas.List.{append-nil, map-append}
 use Rattle.std.specs.Option.{MatchOption, option_map}
-use Rattle.std.specs.Prelude.{option_and_then, if◌then◌else◌}
+use Rattle.std.specs.Prelude.{option_and_then, IfSome, if◌then◌else◌}
 use Rattle.commands.specs.declared.reading.Kind.TheVariants.{End, Plain, Flag, Valued, Joined, Refused}
 use Rattle.commands.specs.Reading.{Word, Allowed, Read, nothing, with_plain, with_option, is_dashed, is_among, is_distinct, names, name_of, value_of, kind_of, by_kind, read_all, once, read_words}
 use Rattle.commands.specs.inner.Progress.{plain_also, plain_behind, given_also, appended, outcome}
@@ -88,6 +88,12 @@ unfolding outcome
 option_step allowed front new name value all words left now None reads twice = reads ∙ given_twice front name value (read_all allowed (words left)) twice
 option_step allowed front new name value all words left now (Some l) reads (same, added, different) =
     (ap (λ n. behind n (read_all allowed (words (now l)))) added ∙ ap (λ ws. behind (given_also name value front) (read_all allowed (words ws))) same ∙ given_more front name value (read_all allowed (words left)) ∙ sym reads, different)
+
+-- the words that are left behind an option are those behind it
+pub option_shorter : {X A : Type 0} (front new : Read) (name value : Word) (left all : List A) (now : X → List A) (answer : Option X) → length left ≤ length all
+    → MatchOption answer (is_among (names front) name ≡ true) (λ l. (now l ≡ left) × (new ≡ given_also name value front) × (is_distinct (names new) ≡ true)) → IfSome answer (λ l. length (now l) ≤ length all)
+option_shorter front new name value left all now None few is = tt
+option_shorter front new name value left all now (Some l) few is = subst (λ words. length words ≤ length all) (sym is.0) few
 
 -- all words are left at the start, and none at the end
 

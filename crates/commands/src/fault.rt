@@ -3,7 +3,7 @@
 use causes::NoMemory;
 
 /// Why words give no command.
-#[derive(Clone, Copy, Debug)]
+#[derive(Clone, Copy)]
 pub enum WordsFault {
     /// The words are outside the rules, or ask for no command.
     Usage,

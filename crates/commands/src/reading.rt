@@ -184,8 +184,10 @@ impl<'a> Reading<'a> {
     fn push_plain(&mut self, word: &'a str) -> Result<(), NoMemory>
         ensures { OnOk result (self.new ≡ plain_also word.now self.old) }
     {
-        self.plain.push(word)?;
-        Ok(())
+        match self.plain.push(word) {
+            Ok(()) => Ok(()),
+            Err(_) => Err(NoMemory),
+        }
     }
 
     fn push_plain_words(&mut self, words: &'a [String]) -> Result<(), NoMemory>
@@ -204,8 +206,10 @@ impl<'a> Reading<'a> {
     fn push_option(&mut self, name: &'a str, value: &'a str) -> Result<(), NoMemory>
         ensures { OnOk result (self.new ≡ given_also name.now value.now self.old) }
     {
-        self.given.push((name, value))?;
-        Ok(())
+        match self.given.push((name, value)) {
+            Ok(()) => Ok(()),
+            Err(_) => Err(NoMemory),
+        }
     }
 }
 
@@ -264,24 +268,19 @@ fn read_word<'a>(
             reading.push_plain(word)?;
             Ok(Some(behind))
         }
-        Kind::Flag => {
-            let left = give_option(reading, word, "", behind)?;
-            Ok(left)
-        }
+        Kind::Flag => give_option(reading, word, "", behind),
         Kind::Valued => match split_first_word(behind) {
             None => Ok(None),
             Some((value, rest)) => {
                 if is_dashed(value) {
                     return Ok(None);
                 }
-                let left = give_option(reading, word, value, rest)?;
-                Ok(left)
+                give_option(reading, word, value, rest)
             }
         },
         Kind::Joined => {
             let (name, value) = parts(word);
-            let left = give_option(reading, name, value, behind)?;
-            Ok(left)
+            give_option(reading, name, value, behind)
         }
         Kind::Refused => Ok(None),
     }

@@ -14,7 +14,7 @@ pub use calls::{Answer, Call, Width, run};
 pub use paged::Memory;
 
 /// Why a store, a write, a copy or a fill did not happen. Nothing was changed.
-#[derive(Clone, Copy, Debug, PartialEq, Eq)]
+#[derive(Clone, Copy, PartialEq, Eq)]
 pub enum StoreFault {
     /// A range passes the end of the memory.
     Out,

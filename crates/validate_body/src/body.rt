@@ -18,7 +18,7 @@ use wasm_syntax::{BlockKind, Body, FuncType, ModuleParts, ValType, read_op};
 
 /// Why a body is refused: at the code offset of the first instruction such that the body up to and
 /// with it begins no well-typed body, or for want of memory.
-#[derive(Clone, Copy, Debug)]
+#[derive(Clone, Copy)]
 pub enum BodyFault {
     WrongAt(u32),
     NoMemory,
@@ -39,7 +39,10 @@ fn opened(alloc: Global, t: Option<ValType>) -> Result<TypeStack, BodyFault>
     let mut stack = TypeStack::new(alloc);
     match stack.open(BlockKind::Plain, t) {
         Ok(()) => Ok(stack),
-        Err(_) => Err(BodyFault::NoMemory),
+        Err(_) => {
+            drop(stack);
+            Err(BodyFault::NoMemory)
+        }
     }
 }
 
@@ -56,14 +59,25 @@ pub fn check_body(
     ensures judged { Judged result m.now t.now body.now }
     ensures marked { IfOk result (λ marks. Marked marks m.now t.now body.now) }
 {
-    let locals = Locals::new(alloc, t.params.as_slice(), body.groups.as_slice())?;
-    let mut marks = Items::new(alloc);
-    match opened(alloc, t.results.get(0).copied()) {
-        Ok(mut stack) => match through(&mut stack, m, t, body, &locals, &mut marks) {
-            Ok(()) => Ok(marks),
-            Err(fault) => Err(fault),
-        },
-        Err(fault) => Err(fault),
+    let mut stack = opened(alloc, t.results.get(0).copied())?;
+    match Locals::new(alloc, t.params.as_slice(), body.groups.as_slice()) {
+        Ok(locals) => {
+            let mut marks = Items::new(alloc);
+            let judged = through(&mut stack, m, t, body, &locals, &mut marks);
+            drop(stack);
+            drop(locals);
+            match judged {
+                Ok(()) => Ok(marks),
+                Err(fault) => {
+                    drop(marks);
+                    Err(fault)
+                }
+            }
+        }
+        Err(NoMemory) => {
+            drop(stack);
+            Err(BodyFault::NoMemory)
+        }
     }
 }
 

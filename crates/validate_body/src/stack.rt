@@ -15,7 +15,7 @@ use std::marker::Model;
 use wasm_syntax::{BlockKind, ValType};
 
 /// Why an instruction is refused: it has no type here, or memory ran out.
-#[derive(Clone, Copy, Debug)]
+#[derive(Clone, Copy)]
 pub enum StackFault {
     Wrong,
     NoMemory,

@@ -4,7 +4,7 @@ ghost use Rattle.std.specs.Prelude.{◌≡◌, ◌∷◌, [], List, reverse, opt
 ghost use Rattle.std.specs.Prelude.{length, Some, None, true, false};
 ghost use Rattle.validate_body.specs.calls.Frames.{pops, pushes, forget, label, no_frame};
 ghost use Rattle.validate_body.specs.calls.Algorithm.{apply as apply_arrow, closed, same_option as are_same};
-ghost use Rattle.validate_body.specs.calls.Algorithm.{step_open as step_inside, is_label};
+ghost use Rattle.validate_body.specs.calls.Algorithm.{is_label};
 ghost use Rattle.validate_body.specs.calls.Algorithm.{targets_fit as targets_do_fit, step_basic, step_jump};
 ghost use Rattle.validate_body.specs.calls.Algorithm.{step as step_frames, at_else, at_end, may_end as may_end_there};
 ghost use Rattle.validate_body.specs.inner.Stacked.{Did};
@@ -239,20 +239,6 @@ pub fn step(
     if stack.is_empty() {
         return Err(StackFault::Wrong);
     }
-    step_open(stack, m, locals, results, targets, code)
-}
-
-fn step_open(
-    stack: &mut TypeStack,
-    m: &ModuleParts,
-    locals: &Locals,
-    results: &[ValType],
-    targets: &[u32],
-    code: Instr,
-) -> Result<(), StackFault>
-    ensures { Did result (step_inside (context_of m.now locals.now results.now) stack.old
-        (item_of targets.now code)) stack.new }
-{
     match code {
         Instr::Basic(i) => basic(stack, m, locals, i),
         Instr::Jump(j) => jump(stack, m, results, targets, j),

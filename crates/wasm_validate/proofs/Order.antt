@@ -290,3 +290,60 @@ start_bad m u h = record {
   where
     same : (other : Place) → kind_number other ≡ 7 → index_number other < 0 → Fine m other
     same other e lt = absurd (omega (arith, lt))
+
+-- ---- the places before the globals, by all lists up to theirs
+
+before_imports : (m : Module) → FirstBad m.types (λ i t. FuncTypeFine t) None → UpTo m 1 0
+before_imports m = types_fine m (nothing_before m)
+
+before_declarations : (m : Module) → FirstBad m.types (λ i t. FuncTypeFine t) None → FirstBad m.imports (λ i x. ImportFine m x) None → UpTo m 2 0
+before_declarations m t x = imports_fine m (before_imports m t) x
+
+before_tables : (m : Module) → FirstBad m.types (λ i t. FuncTypeFine t) None → FirstBad m.imports (λ i x. ImportFine m x) None → FirstBad m.functions (λ i t. DeclarationFine m t) None → UpTo m 3 0
+before_tables m t x d = declarations_fine m (before_declarations m t x) d
+
+before_memories : (m : Module) → FirstBad m.types (λ i t. FuncTypeFine t) None → FirstBad m.imports (λ i x. ImportFine m x) None → FirstBad m.functions (λ i t. DeclarationFine m t) None
+    → FirstBad m.tables (OneFine (2 ^ 32)) None → UpTo m 4 0
+before_memories m t x d l = tables_fine m (before_tables m t x d) l
+
+pub first_type : (m : Module) (i : ℕ) → FirstBad m.types (λ i t. FuncTypeFine t) (Some i) → FirstInvalid m (TypeAt i)
+first_type m i h = types_bad m i (nothing_before m) h
+
+pub first_import : (m : Module) (i : ℕ) → FirstBad m.types (λ i t. FuncTypeFine t) None → FirstBad m.imports (λ i x. ImportFine m x) (Some i) → FirstInvalid m (ImportAt i)
+first_import m i t h = imports_bad m i (before_imports m t) h
+
+pub first_declaration : (m : Module) (n i : ℕ) → n ≡ length m.imports → FirstBad m.types (λ i t. FuncTypeFine t) None → FirstBad m.imports (λ i x. ImportFine m x) None
+    → FirstBad m.functions (λ i t. DeclarationFine m t) (Some i) → FirstInvalid m (Declaration (n + i))
+first_declaration m n i e t x h = subst (λ k. FirstInvalid m (Declaration (k + i))) (sym e) (declarations_bad m i (before_declarations m t x) h)
+
+pub first_table : (m : Module) (i : ℕ) → FirstBad m.types (λ i t. FuncTypeFine t) None → FirstBad m.imports (λ i x. ImportFine m x) None → FirstBad m.functions (λ i t. DeclarationFine m t) None
+    → FirstBad m.tables (OneFine (2 ^ 32)) (Some i) → FirstInvalid m (TableAt i)
+first_table m i t x d h = tables_bad m i (before_tables m t x d) h
+
+pub first_memory : (m : Module) (i : ℕ) → FirstBad m.types (λ i t. FuncTypeFine t) None → FirstBad m.imports (λ i x. ImportFine m x) None → FirstBad m.functions (λ i t. DeclarationFine m t) None
+    → FirstBad m.tables (OneFine (2 ^ 32)) None → FirstBad m.memories (OneFine (2 ^ 16)) (Some i) → FirstInvalid m (MemoryAt i)
+first_memory m i t x d l h = memories_bad m i (before_memories m t x d l) h
+
+pub early_fine : (m : Module) → FirstBad m.types (λ i t. FuncTypeFine t) None → FirstBad m.imports (λ i x. ImportFine m x) None → FirstBad m.functions (λ i t. DeclarationFine m t) None
+    → FirstBad m.tables (OneFine (2 ^ 32)) None → FirstBad m.memories (OneFine (2 ^ 16)) None → UpTo m 5 0
+early_fine m t x d l h = memories_fine m (before_memories m t x d l) h
+
+-- ---- the places from the globals up to the exports
+
+pub first_export : (m : Module) (o : Option ℕ) (i : ℕ) → o ≡ Some i → UpTo m 5 0 → FirstBad m.globals (λ i g. GlobalFine g) None → FirstBad m.exports (ExportFine m) o → FirstInvalid m (ExportAt i)
+first_export m o i e u g h = exports_bad m i (globals_fine m u g) (subst (λ o. FirstBad m.exports (ExportFine m) o) e h)
+
+pub middle_fine : (m : Module) (o : Option ℕ) → o ≡ None → UpTo m 5 0 → FirstBad m.globals (λ i g. GlobalFine g) None → FirstBad m.exports (ExportFine m) o → UpTo m 7 0
+middle_fine m o e u g h = exports_fine m (globals_fine m u g) (subst (λ o. FirstBad m.exports (ExportFine m) o) e h)
+
+-- ---- the places behind those
+
+pub first_element : (m : Module) (i : ℕ) → UpTo m 7 0 → IfSome m.start (StartFine m) → FirstBad m.elements (λ i e. ElementFine m e) (Some i) → FirstInvalid m (ElementAt i)
+first_element m i u s h = elements_bad m i (start_fine m u s) h
+
+pub first_segment : (m : Module) (i : ℕ) → UpTo m 7 0 → IfSome m.start (StartFine m) → FirstBad m.elements (λ i e. ElementFine m e) None → FirstBad m.segments (λ i s. DataFine m s) (Some i)
+    → FirstInvalid m (DataAt i)
+first_segment m i u s e h = segments_bad m i (elements_fine m (start_fine m u s) e) h
+
+pub late_fine : (m : Module) → UpTo m 7 0 → IfSome m.start (StartFine m) → FirstBad m.elements (λ i e. ElementFine m e) None → FirstBad m.segments (λ i s. DataFine m s) None → UpTo m 10 0
+late_fine m u s e h = segments_fine m (elements_fine m (start_fine m u s) e) h

@@ -29,11 +29,11 @@ impl From<NoMemory> for BodiesFault {
 }
 
 /// The body of the i-th defined function.
-fn body_at(m: &ModuleParts, i: usize) -> &Body
-    requires { i < length m.now.bodies }
-    ensures { slice_get m.now.bodies i ≡ Some result.now }
+fn body_at(bodies: &Items<Body>, i: usize) -> &Body
+    requires { i < length bodies.now }
+    ensures { slice_get bodies.now i ≡ Some result.now }
 {
-    &m.bodies.as_slice()[i]
+    &bodies.as_slice()[i]
 }
 
 /// Whether the body of the i-th defined function has its type.
@@ -44,7 +44,7 @@ fn check_at(alloc: Global, m: &ModuleParts, i: usize) -> Result<Marks, BodyFault
     requires others { UpTo m.now 10 0 }
     ensures { BodyJudged result m.now i }
 {
-    let body = body_at(m, i);
+    let body = body_at(&m.bodies, i);
     match m.type_of(m.imports.len() + i) {
         Some(t) => check_body(alloc, m, t, body),
         None => unreachable!(),

@@ -3,23 +3,9 @@
 ghost use Rattle.std.specs.Prelude.{◌≡◌, true, false};
 ghost use Rattle.wasm_syntax.specs.Valid.{ConstBody, ConstTypes};
 ghost use Rattle.wasm_validate.specs.calls.Deciding.{Decides};
-ghost use Rattle.wasm_validate.specs.inner.Places.{is_end as is_last, one_instr};
+ghost use Rattle.wasm_validate.specs.inner.Places.{one_instr};
 
 use wasm_syntax::{Basic, Body, Global, Instr, Op, ValType};
-
-fn is_end(code: Instr) -> bool
-    ensures { result ≡ is_last code }
-{
-    match code {
-        Instr::End => true,
-        Instr::Else => false,
-        Instr::Basic(_) => false,
-        Instr::Jump(_) => false,
-        Instr::Block(_) => false,
-        Instr::Loop(_) => false,
-        Instr::If(_) => false,
-    }
-}
 
 /// The only instruction before the `end`.
 fn only_instr(ops: &[Op]) -> Option<Instr>
@@ -28,10 +14,10 @@ fn only_instr(ops: &[Op]) -> Option<Instr>
     if ops.len() != 2 {
         return None;
     }
-    if is_end(ops[1].code) {
-        return Some(ops[0].code);
+    match ops[1].code {
+        Instr::End => Some(ops[0].code),
+        _ => None,
     }
-    None
 }
 
 /// Whether an instruction is constant, and of this type.

@@ -1,6 +1,6 @@
 //! The parts of a module that are judged by themselves.
 
-ghost use Rattle.std.specs.Prelude.{◌≡◌, ◌<◌, ◌≤◌, ◌^◌, ◌+◌, ℕ, length, slice_get, None, Some};
+ghost use Rattle.std.specs.Prelude.{◌≡◌, ◌<◌, ◌≤◌, ◌^◌, ◌+◌, ℕ, length, slice_get, None, Some, IfSome};
 ghost use Rattle.wasm_syntax.specs.Valid.{AtIndex, FuncTypeFine, ImportFine, DeclarationFine, LimitsFine, GlobalFine};
 ghost use Rattle.wasm_syntax.specs.Valid.{ElementFine, DataFine, StartFine};
 ghost use Rattle.wasm_syntax.specs.Module.{function_types};
@@ -134,12 +134,15 @@ pub fn first_bad_limits(list: &Items<Limits>, most: u64) -> Option<u32>
     }
 }
 
-/// Whether a function may be the start function.
-pub fn is_start_fine(m: &ModuleParts, f: u32) -> bool
-    ensures { Decides result (StartFine m.now f) }
+/// Whether the start function is fine, where there is one.
+pub fn is_start_fine(m: &ModuleParts) -> bool
+    ensures { Decides result (IfSome m.now.start (StartFine m.now)) }
 {
-    match m.type_of(f as usize) {
-        Some(t) => t.params.is_empty() && t.results.is_empty(),
-        None => false,
+    match m.start {
+        Some(f) => match m.type_of(f as usize) {
+            Some(t) => t.params.is_empty() && t.results.is_empty(),
+            None => false,
+        },
+        None => true,
     }
 }

@@ -77,14 +77,18 @@ pub fn validate(alloc: Global, module_: Module) -> Result<Validated, ValidateFau
     requires { WithinLimits module_ }
     ensures { Answered result module_ }
 {
-    // The module is dropped at one place, where it is refused.
-    let known = judge(alloc, &module_)?;
-    Ok(Validated {
-        module: module_,
-        marks: known.marks,
-        heights: known.heights,
-        rows: known.rows,
-    })
+    match judge(alloc, &module_) {
+        Ok(known) => Ok(Validated {
+            module: module_,
+            marks: known.marks,
+            heights: known.heights,
+            rows: known.rows,
+        }),
+        Err(fault) => {
+            drop(module_);
+            Err(fault)
+        }
+    }
 }
 
 /// What is known of a module, or why it is refused.
