@@ -12,4 +12,5 @@ pub mod Short
 pub mod Vectors
 pub mod Instructions
 pub mod Header
+pub mod Ends
 pub mod NamePlaces

@@ -2,6 +2,7 @@
 
 ghost use Rattle.std.specs.Prelude.{◌≡◌, OnOk};
 ghost use Rattle.wasm_bytes.specs.Place.{Moves};
+ghost use Rattle.wasm_bytes.specs.Reading.{sized_run_item};
 ghost use Rattle.wasm_bytes.specs.calls.Answers.{Gives};
 ghost use Rattle.wasm_format.specs.Expressions.{code_item};
 ghost use Rattle.wasm_format.specs.Sections.{global_item, element_item, segment_item, bodies_item};
@@ -12,7 +13,7 @@ use crate::form::{global_type, locals};
 use crate::input::Input;
 use pm_text::Items;
 use std::alloc::Global;
-use wasm_bytes::{Gather, ItemFault, Noted, Noting, Run, gather_count};
+use wasm_bytes::{Gather, ItemFault, Malformed, Noted, Noting, Run, gather_count};
 use wasm_syntax::{Bodies, Body, DataSeg, ElementSeg, Global as GlobalPart};
 
 /// A global (Core 5.5.9).
@@ -46,16 +47,30 @@ impl<'a> Noting<Input<'a>> for ElementSeg {
     fn read(alloc: Global, input: &mut Input<'a>) -> Result<Noted<ElementSeg>, ItemFault> {
         let table = input.u32()?;
         let offset = constant(alloc, input)?;
-        let functions = input.item::<Items<u32>>(alloc)?;
-        Ok(Noted {
-            value: ElementSeg {
-                table,
-                offset: offset.value,
-                functions,
-            },
-            float: offset.float,
-        })
+        match input.item::<Items<u32>>(alloc) {
+            Ok(functions) => Ok(Noted {
+                value: ElementSeg {
+                    table,
+                    offset: offset.value,
+                    functions,
+                },
+                float: offset.float,
+            }),
+            Err(fault) => {
+                drop(offset);
+                Err(fault)
+            }
+        }
     }
+}
+
+/// A copy of the bytes behind a size.
+fn copied<'a>(alloc: Global, input: &mut Input<'a>) -> Result<Items<u8>, ItemFault>
+    ensures item { Gives result input.new (sized_run_item input.old) }
+    ensures moves { OnOk result (Moves input.old input.new) }
+{
+    let run = input.item::<Run<'a>>(alloc)?;
+    Ok(Items::from_slice(alloc, run.as_slice())?)
 }
 
 /// A data segment (Core 5.5.14), whose bytes are copied once.
@@ -68,16 +83,20 @@ impl<'a> Noting<Input<'a>> for DataSeg {
     fn read(alloc: Global, input: &mut Input<'a>) -> Result<Noted<DataSeg>, ItemFault> {
         let memory = input.u32()?;
         let offset = constant(alloc, input)?;
-        let run = input.item::<Run<'a>>(alloc)?;
-        let bytes = Items::from_slice(alloc, run.as_slice())?;
-        Ok(Noted {
-            value: DataSeg {
-                memory,
-                offset: offset.value,
-                bytes,
-            },
-            float: offset.float,
-        })
+        match copied(alloc, input) {
+            Ok(bytes) => Ok(Noted {
+                value: DataSeg {
+                    memory,
+                    offset: offset.value,
+                    bytes,
+                },
+                float: offset.float,
+            }),
+            Err(fault) => {
+                drop(offset);
+                Err(fault)
+            }
+        }
     }
 }
 
@@ -90,17 +109,29 @@ fn code(alloc: Global, origin: u32, input: &mut Input<'_>) -> Result<Noted<Body>
     let mut inner = input.open()?;
     let start = inner.at();
     let locals = locals(alloc, &mut inner)?;
-    let expression = expression(alloc, start, &mut inner)?;
-    inner.end()?;
-    Ok(Noted {
-        value: Body {
-            groups: locals.groups,
-            ops: expression.ops,
-            targets: expression.targets,
-            start: start.saturating_sub(origin),
-        },
-        float: locals.float.or(expression.float),
-    })
+    let expression = match expression(alloc, start, &mut inner) {
+        Ok(expression) => expression,
+        Err(fault) => {
+            drop(locals);
+            return Err(fault);
+        }
+    };
+    match inner.end() {
+        Ok(()) => Ok(Noted {
+            value: Body {
+                groups: locals.groups,
+                ops: expression.ops,
+                targets: expression.targets,
+                start: start.saturating_sub(origin),
+            },
+            float: locals.float.or(expression.float),
+        }),
+        Err(Malformed { at }) => {
+            drop(locals);
+            drop(expression);
+            Err(ItemFault::At(at))
+        }
+    }
 }
 
 /// Bodies in a section whose contents begin at an offset.
@@ -140,8 +171,13 @@ fn entries(alloc: Global, due: usize, input: &mut Input<'_>) -> Result<Noted<Bod
             float: None,
         },
     };
-    gather_count(alloc, count, &mut entries, input)?;
-    Ok(entries.bodies)
+    match gather_count(alloc, count, &mut entries, input) {
+        Ok(()) => Ok(entries.bodies),
+        Err(fault) => {
+            drop(entries);
+            Err(fault)
+        }
+    }
 }
 
 /// The contents of the code section, where so many bodies are due.

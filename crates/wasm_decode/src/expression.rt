@@ -3,7 +3,7 @@
 ghost use Rattle.std.specs.Prelude.{◌≡◌, ◌≤◌, length, OnOk};
 ghost use Rattle.wasm_bytes.specs.Place.{Moves, Stays};
 ghost use Rattle.wasm_bytes.specs.calls.Answers.{Gives, with_state};
-ghost use Rattle.wasm_format.specs.Expressions.{stand_in, code_of, float_of, may_stand, open_behind, instr_step};
+ghost use Rattle.wasm_format.specs.Expressions.{code_of, float_of, may_stand, open_behind, instr_step};
 ghost use Rattle.wasm_format.specs.Expressions.{expression_from, expression_item};
 ghost use Rattle.wasm_decode.specs.calls.Steps.{instr_steps};
 
@@ -15,25 +15,19 @@ use wasm_bytes::{ItemFault, Noted};
 use wasm_format::{Code, Expression};
 use wasm_syntax::{Basic, BlockKind, Body, Instr, Op};
 
-/// What stands in the place of an instruction that has a float type: one that opens the same, or
-/// nothing.
-fn stand_in(opcode: u8) -> Instr
-    ensures { result ≡ stand_in opcode }
-{
-    match opcode {
-        0x02 => Instr::Block(None),
-        0x03 => Instr::Loop(None),
-        0x04 => Instr::If(None),
-        _ => Instr::Basic(Basic::Nop),
-    }
-}
-
+/// The instruction, or what stands in the place of one that has a float type: one that opens the
+/// same, or nothing.
 fn instr_of(opcode: u8, code: &Code) -> Instr
     ensures { result ≡ code_of opcode code.now }
 {
     match code {
         Code::Known(instr) => *instr,
-        Code::Float { .. } => stand_in(opcode),
+        Code::Float { .. } => match opcode {
+            0x02 => Instr::Block(None),
+            0x03 => Instr::Loop(None),
+            0x04 => Instr::If(None),
+            _ => Instr::Basic(Basic::Nop),
+        },
     }
 }
 
@@ -139,8 +133,13 @@ pub fn expression(
         blocks,
         float: None,
     };
-    take_instrs(&mut expression, input)?;
-    Ok(expression)
+    match take_instrs(&mut expression, input) {
+        Ok(()) => Ok(expression),
+        Err(fault) => {
+            drop(expression);
+            Err(fault)
+        }
+    }
 }
 
 /// An expression that stands alone. Its code offsets count from its first byte.

@@ -5,8 +5,9 @@ ghost use Rattle.wasm_bytes.specs.Reading.{choose};
 ghost use Rattle.wasm_decode.specs.calls.Imports.{import_of, named};
 ghost use Rattle.wasm_bytes.specs.Place.{Moves};
 ghost use Rattle.wasm_bytes.specs.calls.Answers.{Reads, Gives};
-ghost use Rattle.wasm_format.specs.Form.{valtype_item, functype_item, limits_item, table_item, mutability_item};
-ghost use Rattle.wasm_format.specs.Form.{globaltype_item, import_item, import_behind, export_kind_item, export_item, group_step};
+ghost use Rattle.wasm_format.specs.Form.{valtype_item, functype_item, limits_item, table_item};
+ghost use Rattle.wasm_format.specs.Form.{globaltype_item, import_item, import_behind, export_kind_item};
+ghost use Rattle.wasm_format.specs.Form.{export_item, group_step};
 ghost use Rattle.wasm_format.specs.Form.{locals_item};
 
 use crate::input::Input;
@@ -131,29 +132,19 @@ impl<'a> Item<Input<'a>> for TableTypes {
     }
 }
 
-/// Whether a global is variable (Core 5.3.7).
-#[tactic(auto, unfolding(wasm_bytes::specs::Reading::byte_item, wasm_bytes::specs::Reading::one_of_item, wasm_format::specs::Form::mutability_item))]
-fn mutability(input: &mut Input<'_>) -> Result<bool, Malformed>
-    ensures item { Reads result input.new (mutability_item input.old) }
-    ensures moves { OnOk result (Moves input.old input.new) }
-{
-    let at = input.at() as usize;
-    match input.byte()? {
-        0x00 => Ok(false),
-        0x01 => Ok(true),
-        _ => Err(Malformed { at }),
-    }
-}
-
-/// The type of a global (Core 5.3.7).
-#[tactic(auto, unfolding(wasm_format::specs::Form::globaltype_item))]
+/// The type of a global, and whether it is variable (Core 5.3.7).
+#[tactic(auto, unfolding(wasm_bytes::specs::Reading::byte_item, wasm_bytes::specs::Reading::one_of_item, wasm_format::specs::Form::mutability_item, wasm_format::specs::Form::globaltype_item))]
 pub fn global_type(input: &mut Input<'_>) -> Result<(Noted<ValType>, bool), Malformed>
     ensures item { Reads result input.new (globaltype_item input.old) }
     ensures moves { OnOk result (Moves input.old input.new) }
 {
     let vtype = value_type(input)?;
-    let mutable = mutability(input)?;
-    Ok((vtype, mutable))
+    let at = input.at() as usize;
+    match input.byte()? {
+        0x00 => Ok((vtype, false)),
+        0x01 => Ok((vtype, true)),
+        _ => Err(Malformed { at }),
+    }
 }
 
 /// What an import says behind its names, of which only the type of a function is kept.

@@ -1,6 +1,6 @@
 //! A whole module from its bytes.
 
-ghost use Rattle.std.specs.Prelude.{◌≡◌, ◌<◌, ◌^◌, ℕ, length, None, Err, IfOk, IfErr, OnOk};
+ghost use Rattle.std.specs.Prelude.{◌≡◌, ◌<◌, ◌^◌, ℕ, length, Ok, Err, IfOk, IfErr, OnOk};
 ghost use Rattle.wasm_syntax.specs.declared.quantity.Quantity.{Quantity as Counted};
 ghost use Rattle.wasm_syntax.specs.declared.module.ModuleParts.{ModuleParts as Parts};
 ghost use Rattle.wasm_syntax.specs.Sizes.{WithinLimits};
@@ -64,12 +64,12 @@ fn refusal(spelled: &SpelledModule) -> Option<DecodeFault>
     too_much(&spelled.parts)
 }
 
-/// The functions among the imports, which are taken out, where nothing is refused.
-fn imported(alloc: Global, spelled: &mut SpelledModule) -> Result<Imports, DecodeFault>
+/// Puts the functions among the imports, which are taken out, into the parts, where nothing is
+/// refused.
+#[tactic(auto, using(crate::proofs::Meanings::kept_is))]
+fn judge(alloc: Global, spelled: &mut SpelledModule) -> Result<(), DecodeFault>
     requires { Fit spelled.old }
-    ensures same { spelled.new.parts ≡ spelled.old.parts }
-    ensures plain { OnOk result (refusal spelled.old ≡ None) }
-    ensures functions { IfOk result (λ imports. imports ≡ functions_of spelled.old.imports) }
+    ensures kept { OnOk result (judged spelled.old ≡ Ok spelled.new.parts) }
     ensures refused { IfErr result (λ fault. Answers (Err fault) (judged spelled.old)) }
 {
     if let Some(fault) = refusal(spelled) {
@@ -77,24 +77,22 @@ fn imported(alloc: Global, spelled: &mut SpelledModule) -> Result<Imports, Decod
     }
     let imports = mem::replace(&mut spelled.imports, Items::new(alloc));
     match functions(alloc, imports) {
-        Ok(functions) => Ok(functions),
+        Ok(functions) => {
+            spelled.parts.imports = functions;
+            Ok(())
+        }
         Err(NoMemory) => Err(DecodeFault::NoMemory),
     }
 }
 
 /// The module that was spelled, or why it is refused. What was spelled is dropped at one place.
+#[tactic(auto, using(crate::proofs::Ends::and_answers))]
 fn judged(alloc: Global, mut spelled: SpelledModule) -> Result<ModuleParts, DecodeFault>
     requires { Fit spelled }
     ensures { Answers result (judged spelled) }
 {
-    match imported(alloc, &mut spelled) {
-        Ok(imports) => {
-            let mut parts = spelled.parts;
-            parts.imports = imports;
-            Ok(parts)
-        }
-        Err(fault) => Err(fault),
-    }
+    let judged = judge(alloc, &mut spelled);
+    judged.and(Ok(spelled.parts))
 }
 
 fn decoded(alloc: Global, bytes: &[u8]) -> Result<Module, DecodeFault>
@@ -108,12 +106,14 @@ fn decoded(alloc: Global, bytes: &[u8]) -> Result<Module, DecodeFault>
         });
     }
     match spelled(alloc, bytes) {
-        Ok(spelled) => {
-            let parts = judged(alloc, spelled)?;
-            Ok(Module::new(parts))
-        }
-        Err(ItemFault::At(at)) => Err(DecodeFault::Malformed { at }),
-        Err(ItemFault::NoMemory) => Err(DecodeFault::NoMemory),
+        Ok(spelled) => match judged(alloc, spelled) {
+            Ok(parts) => Ok(Module::new(parts)),
+            Err(fault) => Err(fault),
+        },
+        Err(fault) => match fault {
+            ItemFault::At(at) => Err(DecodeFault::Malformed { at }),
+            ItemFault::NoMemory => Err(DecodeFault::NoMemory),
+        },
     }
 }
 

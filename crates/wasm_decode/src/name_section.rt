@@ -190,13 +190,6 @@ fn first_names(alloc: Global, bytes: &[u8], customs: &[Custom]) -> Result<Names,
     Ok(Names::new(alloc))
 }
 
-fn names_of(alloc: Global, bytes: &[u8], module: &Module) -> Result<Names, NoMemory>
-    requires { length bytes.now < 2 ^ 32 }
-    ensures { IfOk result (λ names. names ≡ names_from bytes.now «module».now.customs) }
-{
-    first_names(alloc, bytes, module.parts().customs.as_slice())
-}
-
 /// The names of functions that the first custom section `name` of a module gives: its first
 /// subsection of function names, in which the first name of an index counts. There are none where
 /// the section or the subsection is not there, or where an item of the section has no reading. The
@@ -208,5 +201,5 @@ pub fn function_names(alloc: Global, bytes: &[u8], module: &Module) -> Result<Na
     ensures only { (names : List Named) → AreNamesOf bytes.now «module».now.customs names
         → IfOk result (λ found. found ≡ names) }
 {
-    names_of(alloc, bytes, module)
+    first_names(alloc, bytes, module.parts().customs.as_slice())
 }

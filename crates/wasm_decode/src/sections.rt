@@ -334,6 +334,11 @@ pub fn spelled(alloc: Global, bytes: &[u8]) -> Result<SpelledModule, ItemFault>
     ensures { GivesWhole result (whole module_item bytes.now) }
 {
     let mut spelled = no_sections(alloc);
-    read_whole(alloc, &mut spelled, bytes)?;
-    Ok(spelled)
+    match read_whole(alloc, &mut spelled, bytes) {
+        Ok(()) => Ok(spelled),
+        Err(fault) => {
+            drop(spelled);
+            Err(fault)
+        }
+    }
 }

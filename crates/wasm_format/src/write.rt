@@ -188,8 +188,7 @@ fn push_access(out: &mut Vec<u8>, opcode: u8, align: u32, offset: u32) -> Result
         ≡ out.old.items ++ opcode ∷ two_numbers align offset) }
     ensures front { take (length out.old.items) out.new.items ≡ out.old.items }
 {
-    out.push(opcode)?;
-    write_u32(out, align)?;
+    push_indexed(out, opcode, align)?;
     write_u32(out, offset)
 }
 
@@ -216,10 +215,8 @@ fn push_indirect(out: &mut Vec<u8>, ftype: u32) -> Result<(), NoMemory>
         ≡ out.old.items ++ (0x11 ∷ unsigned_bytes ftype ++ 0x00 ∷ [])) }
     ensures front { take (length out.old.items) out.new.items ≡ out.old.items }
 {
-    out.push(0x11)?;
-    write_u32(out, ftype)?;
-    out.push(0x00)?;
-    Ok(())
+    push_indexed(out, 0x11, ftype)?;
+    push_bytes(out, &[0x00])
 }
 
 fn push_numbers(out: &mut Vec<u8>, numbers: &[u32]) -> Result<(), NoMemory>
@@ -240,8 +237,7 @@ fn push_labels(out: &mut Vec<u8>, count: u32, targets: &[u32], default: u32) -> 
     ensures words { AllWords targets.now }
     ensures front { take (length out.old.items) out.new.items ≡ out.old.items }
 {
-    out.push(0x0e)?;
-    write_u32(out, count)?;
+    push_indexed(out, 0x0e, count)?;
     push_numbers(out, targets)?;
     write_u32(out, default)
 }

@@ -1,5 +1,4 @@
 use Rattle.std.proofs.Common.{◌<◌, ◌≤◌, length, Result, Err, sym, ap, subst, ◌∙◌, arith}
-use Rattle.std.proofs.lemmas.Result.{err_from_is_err_and}
 use Rattle.wasm_syntax.specs.declared.quantity.Quantity.TheVariants.{ModuleBytes}
 use Rattle.wasm_syntax.specs.declared.module.ModuleParts.{ModuleParts}
 use Rattle.wasm_syntax.specs.Quantity.{greatest}
@@ -21,24 +20,23 @@ judged-requires c =
     let fits : IsBytes c.args.bytes.now = λ i. omega (arith, c.type_inv.bytes i) in
     read_fits c.args.bytes.now c.in-Ok.spelled fits (omega (arith, c.if-count-limit.false, c.limit.ensures)) c.in-Ok.ensures
 
-pub returns-in_err-parts-in-Ok : goal.returns-in_err-parts-in-Ok
-returns-in_err-parts-in-Ok c =
-    let p = err_from_is_err_and c.from_residual.result c.from_residual.ensures.1 in
+pub returns-in-Err-judged : goal.returns-in-Err-judged
+returns-in-Err-judged c =
     let short : length c.args.bytes.now ≤ greatest ModuleBytes = omega (arith, c.if-count-limit.false, c.limit.ensures) in
     let is = read_is c.args.bytes.now c.in-Ok.spelled short c.in-Ok.ensures in
-    rw (p.1, p.2) (subst (λ (r : Result ModuleParts DecodeFault). Answers (Err c.in_err-parts-in-Ok.field-0.0) r) (sym is) c.in_err-parts-in-Ok.ensures)
+    subst (λ (r : Result ModuleParts DecodeFault). Answers (Err c.in-Err-judged.fault) r) (sym is) c.in-Err-judged.ensures
 
 pub new-requires : goal.new-requires
 new-requires c =
     let fits : IsBytes c.args.bytes.now = λ i. omega (arith, c.type_inv.bytes i) in
-    subst IsModule (sym (judged_ok c.in-Ok.spelled c.in_ok-parts-in-Ok.parts c.in_ok-parts-in-Ok.ensures)) (read_module c.args.bytes.now c.in-Ok.spelled fits c.in-Ok.ensures)
+    subst IsModule (sym (judged_ok c.in-Ok.spelled c.in-Ok-judged.parts c.in-Ok-judged.ensures)) (read_module c.args.bytes.now c.in-Ok.spelled fits c.in-Ok.ensures)
 
-pub returns-in_ok-parts-in-Ok : goal.returns-in_ok-parts-in-Ok
-returns-in_ok-parts-in-Ok c =
+pub returns-in-Ok-judged : goal.returns-in-Ok-judged
+returns-in-Ok-judged c =
     let short : length c.args.bytes.now ≤ greatest ModuleBytes = omega (arith, c.if-count-limit.false, c.limit.ensures) in
-    ap known c.new.ensures ∙ c.in_ok-parts-in-Ok.ensures ∙ sym (read_is c.args.bytes.now c.in-Ok.spelled short c.in-Ok.ensures)
+    ap known c.new.ensures ∙ c.in-Ok-judged.ensures ∙ sym (read_is c.args.bytes.now c.in-Ok.spelled short c.in-Ok.ensures)
 
-pub returns-in-Err-At : goal.returns-in-Err-At
-returns-in-Err-At c =
+pub returns-in-At : goal.returns-in-At
+returns-in-At c =
     let short : length c.args.bytes.now ≤ greatest ModuleBytes = omega (arith, c.if-count-limit.false, c.limit.ensures) in
-    rw c.in-Err-At.at-is (sym (broken_is c.args.bytes.now c.in-Err-At.at short (rw c.in-Err-At.field-0-is at c.in-Err-At.ensures)))
+    sym (broken_is c.args.bytes.now c.in-At.at short (rw c.in-At.is at c.in-Err.ensures))
