@@ -12,7 +12,8 @@ ghost use Rattle.dump_format.specs.inner.Gathering.{dump_gathered};
 
 use crate::dump::Dump;
 use crate::fault::DumpFault;
-use crate::sections::gathered;
+use crate::gathered::Gathered;
+use crate::sections::gather;
 use std::alloc::Global;
 use wasm_bytes::ItemFault;
 use wasm_syntax::Quantity;
@@ -28,10 +29,17 @@ fn decode<'a>(alloc: Global, bytes: &'a [u8]) -> Result<Dump<'a>, DumpFault>
             count,
         });
     }
-    match gathered(alloc, bytes) {
-        Ok(gathered) => gathered.judged(alloc),
-        Err(ItemFault::At(at)) => Err(DumpFault::Malformed { at }),
-        Err(ItemFault::NoMemory) => Err(DumpFault::NoMemory),
+    let mut gathered = Gathered::new();
+    match gather(alloc, &mut gathered, bytes) {
+        Ok(()) => gathered.judged(alloc),
+        Err(ItemFault::At(at)) => {
+            drop(gathered);
+            Err(DumpFault::Malformed { at })
+        }
+        Err(ItemFault::NoMemory) => {
+            drop(gathered);
+            Err(DumpFault::NoMemory)
+        }
     }
 }
 

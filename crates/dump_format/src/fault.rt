@@ -6,7 +6,7 @@ ghost use Rattle.dump_format.specs.Part.{part_name};
 use wasm_syntax::Quantity;
 
 /// A part of a dump that may stand only once.
-#[derive(Clone, Copy, Debug, PartialEq, Eq)]
+#[derive(Clone, Copy, PartialEq, Eq)]
 pub enum DumpPart {
     Core,
     CoreModules,
@@ -31,7 +31,7 @@ impl DumpPart {
 }
 
 /// Why a dump is not read.
-#[derive(Clone, Copy, Debug, PartialEq, Eq)]
+#[derive(Clone, Copy, PartialEq, Eq)]
 pub enum DumpFault {
     NoMemory,
     /// The item at this offset, in bytes from the first one, has no reading.

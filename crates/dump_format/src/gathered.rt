@@ -141,18 +141,23 @@ impl<'a> Gathered<'a> {
     pub fn judged(self, alloc: Global) -> Result<Dump<'a>, DumpFault>
         ensures { result ≡ unless_refused (refusal_in self.entry) (dump_in self.entry) }
     {
-        if let Some(fault) = self.refusal() {
-            return Err(fault);
+        match self.refusal() {
+            Some(fault) => {
+                drop(self);
+                Err(fault)
+            }
+            None => {
+                let memory = self.memory();
+                Ok(Dump {
+                    name: self.name.or(Text::new(alloc)),
+                    modules: self.modules.or(Items::new(alloc)),
+                    instances: self.instances.or(Items::new(alloc)),
+                    frames: self.frames.or(Items::new(alloc)),
+                    memory,
+                    globals: self.globals.or(Items::new(alloc)),
+                    segments: self.segments.or(Items::new(alloc)),
+                })
+            }
         }
-        let memory = self.memory();
-        Ok(Dump {
-            name: self.name.or(Text::new(alloc)),
-            modules: self.modules.or(Items::new(alloc)),
-            instances: self.instances.or(Items::new(alloc)),
-            frames: self.frames.or(Items::new(alloc)),
-            memory,
-            globals: self.globals.or(Items::new(alloc)),
-            segments: self.segments.or(Items::new(alloc)),
-        })
     }
 }

@@ -7,6 +7,7 @@ ghost use Rattle.wasm_bytes.specs.calls.Answers.{Gives, GivesWhole, with_state};
 ghost use Rattle.dump_format.specs.Sections.{may_follow};
 ghost use Rattle.wasm_bytes.specs.Tables.{header};
 ghost use Rattle.dump_format.specs.inner.Gathering.{custom_gathering, contents_gathering, section_step, gathered_item};
+ghost use Rattle.dump_format.specs.inner.Gathering.{nothing_gathered};
 
 use crate::dump::Instance;
 use crate::gathered::Gathered;
@@ -107,18 +108,22 @@ impl<'a> Gather<Reader<'a>> for Gathered<'a> {
     }
 }
 
-/// All sections of an input. A section `core` is due.
+/// Gathers all sections of an input. A section `core` is due.
 #[tactic(auto, unfolding(crate::specs::inner::Gathering::all_gathered, crate::specs::inner::Gathering::gathered_item))]
-pub fn gathered<'a>(alloc: Global, bytes: &'a [u8]) -> Result<Gathered<'a>, ItemFault>
-    ensures { GivesWhole result (whole gathered_item bytes.now) }
+pub fn gather<'a>(
+    alloc: Global,
+    gathered: &mut Gathered<'a>,
+    bytes: &'a [u8],
+) -> Result<(), ItemFault>
+    requires { gathered.old ≡ nothing_gathered }
+    ensures { GivesWhole (with_state gathered.new result) (whole gathered_item bytes.now) }
 {
     let mut reader = Reader::new(bytes);
     reader.bytes(&HEADER)?;
-    let mut gathered = Gathered::new();
-    gather_to_end(alloc, &mut gathered, &mut reader)?;
+    gather_to_end(alloc, gathered, &mut reader)?;
     if !gathered.name.is_found() {
         return Err(ItemFault::At(reader.at()));
     }
     reader.end()?;
-    Ok(gathered)
+    Ok(())
 }

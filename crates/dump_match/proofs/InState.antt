@@ -1,6 +1,7 @@
 -- The tests of a state, by those of a dump.
-use Rattle.std.proofs.Common.{◌≡◌, ℕ, zero, suc, ◌+◌, ◌<◌, ◌≤◌, length, inl, inr, ⊎_elim, Option, Some, None, slice_get, refl, sym, subst, arith}
+use Rattle.std.proofs.Common.{◌≡◌, ℕ, zero, suc, ◌+◌, ◌<◌, ◌≤◌, length, inl, inr, ⊎_elim, Option, Some, None, slice_get, refl, sym, subst, ◌∙◌, arith}
 use Rattle.std.specs.Prelude.{◌⊎◌, IfSome, Result, Ok, Err}
+use Rattle.std.proofs.lemmas.Option.{same_Some}
 use Rattle.wasm_syntax.specs.declared.module.ModuleParts.{ModuleParts as Module}
 use Rattle.wasm_syntax.specs.Valid.{There}
 use Rattle.dump_format.specs.declared.dump.Dump.{Dump}
@@ -72,6 +73,9 @@ module _ (m : Module) (dump : Dump) where
 
   pub inner_frame : (r : Result (Unit {0}) Mismatch) → ((f : Frame) → slice_get dump.frames 0 ≡ Some f → AtClose m f → ⊥) → FrameJudged r m dump 0 → StateFrameJudged r m dump 0
   inner_frame r n = frame_by r 0 (λ row e p. back n row p)
+
+  pub inner_at : (r : Result (Unit {0}) Mismatch) (f : Frame) → slice_get dump.frames 0 ≡ Some f → (AtClose m f → ⊥) → FrameJudged r m dump 0 → StateFrameJudged r m dump 0
+  inner_at r f at open_ = inner_frame r (λ g e close. open_ (subst (AtClose m) (same_Some g f (sym e ∙ at)) close))
 
   -- ---- the innermost frame at an `else` or `end`
 

@@ -125,6 +125,15 @@ module _ (m : Module) (dump : Dump) where
     none_yet : {A : Type 0} (n : ℕ) → n < n → A
     none_yet n lt = absurd (omega (arith, lt))
 
+    pub no_function : (FunctionFits m f → ⊥) → FrameJudged (Err (rows.Function i)) m dump i
+    no_function n =
+        fails_at (rows.Function i) (omega arith) (λ p. n (fits (FunctionFits m) p)) (none_yet 4) (λ x. absurd (omega (arith, x))) (λ x. absurd (omega (arith, x))) (λ x. absurd (omega (arith, x))) (λ x. absurd (omega (arith, x)))
+        (λ x. absurd (omega (arith, x)))
+
+    pub no_offset : FunctionFits m f → (OffsetFits m f → ⊥) → FrameJudged (Err (rows.Offset i)) m dump i
+    no_offset a n =
+        fails_at (rows.Offset i) (omega arith) (λ p. n (fits (OffsetFits m) p)) (λ x. a) (none_yet 5) (λ x. absurd (omega (arith, x))) (λ x. absurd (omega (arith, x))) (λ x. absurd (omega (arith, x))) (λ x. absurd (omega (arith, x)))
+
     pub no_locals : FunctionFits m f → OffsetFits m f → (LocalsFit m f → ⊥) → FrameJudged (Err (rows.Locals i)) m dump i
     no_locals a b n = fails_at (rows.Locals i) (omega arith) (λ p. n (fits (LocalsFit m) p)) (λ x. a) (λ x. b) (none_yet 6) (λ x. absurd (omega (arith, x))) (λ x. absurd (omega (arith, x))) (λ x. absurd (omega (arith, x)))
 

@@ -1,7 +1,7 @@
 //! Why a dump can't be one of a module.
 
 /// The first test that fails.
-#[derive(Clone, Copy, Debug, PartialEq, Eq)]
+#[derive(Clone, Copy, PartialEq, Eq)]
 pub enum Mismatch {
     /// There is not exactly one instance; or the index of its module, its list of memories, or one
     /// of its globals is out of range; or a frame is of another instance.

@@ -1,5 +1,5 @@
 -- Dumps that show an image, and their canonical bytes.
-use Rattle.std.proofs.Common.{◌≡◌, ℕ, ◌+◌, ◌-◌, ◌*◌, ◌/◌, ◌^◌, ◌<◌, ◌≤◌, List, [], ◌∷◌, ◌++◌, length, map, drop, replicate, refl, sym, ap, subst, ◌∙◌, arith, add-one, Option, Some, None}
+use Rattle.std.proofs.Common.{◌≡◌, ℕ, ◌+◌, ◌-◌, ◌*◌, ◌/◌, ◌^◌, ◌<◌, ◌≤◌, List, [], ◌∷◌, ◌++◌, length, map, drop, replicate, refl, sym, ap, subst, ◌∙◌, arith, add-one, Option, Some, None, All}
 use Rattle.std.specs.Prelude.{min, option_map, IfSome}
 use Rattle.std.specs.List.{range_with_len}
 use Rattle.std.proofs.Math.Nat.{min-eq_left}
@@ -8,6 +8,7 @@ use Rattle.linear_memory.specs.Memory.{page_size, pages, splice}
 use Rattle.linear_memory.specs.calls.Paged.{Paged}
 use Rattle.dump_format.specs.declared.dump.Dump.{Dump}
 use Rattle.dump_format.specs.declared.dump.Instance.{Instance}
+use Rattle.dump_format.specs.Region.{Region}
 use Rattle.dump_format.specs.Form.{pages_of}
 use Rattle.dump_write.specs.Pages.{laid_on, memory_bytes, used_pages}
 use Rattle.dump_write.specs.Canonical.{core_bytes, modules_bytes, instances_bytes, instance_of, stack_bytes, memory_section, memory_indices, globals_section, data_section, sections_before_data, canonical_bytes}
@@ -91,6 +92,11 @@ pictured i d m name modules instances frames globals bytes size covers = record 
   memory = size_is m i.memory d.memory bytes size;
   bytes = bytes_are m d i.memory bytes size covers;
 }
+
+-- segments that cover a memory, where there is one, lie inside a memory of its size
+pub contained_with : (m : Option Paged) (size : Option ℕ) (segments : List Region) → size ≡ option_map (λ m. pages m.memory) m → CoversIfThere m segments → All (λ r. r.at + length r.bytes ≤ 65536 * pages_of size) segments
+contained_with None size segments is covers = subst (λ (rs : List Region). All (λ r. r.at + length r.bytes ≤ 65536 * pages_of size) rs) (sym covers) (λ k d h. absurd (omega (arith, h)))
+contained_with (Some m) size segments is covers = subst (λ (o : Option ℕ). All (λ r. r.at + length r.bytes ≤ 65536 * pages_of o) segments) (sym is) covers.inside
 
 -- one index more
 pub range_grown : (n : ℕ) → range_with_len 0 (n + 1) ≡ range_with_len 0 n ++ n ∷ []

@@ -1,7 +1,8 @@
 -- Segments that are laid on a memory one after another, and the pages of a memory in order.
-use Rattle.std.proofs.Common.{◌≡◌, ℕ, ◌+◌, ◌-◌, ◌*◌, ◌/◌, ◌%◌, ◌<◌, ◌≤◌, Bool, true, false, cond, List, [], ◌∷◌, ◌++◌, length, take, drop, get_or, replicate, refl, sym, ap, subst, ◌∙◌, arith, append_assoc, length-take, length-drop, Option, Some, None}
+use Rattle.std.proofs.Common.{◌≡◌, ℕ, ◌+◌, ◌-◌, ◌*◌, ◌/◌, ◌%◌, ◌<◌, ◌≤◌, Bool, true, false, cond, List, [], ◌∷◌, ◌++◌, length, take, drop, get_or, replicate, refl, sym, ap, subst, ◌∙◌, arith, append_assoc, length-take, length-drop, Option, Some, None, All}
 use Rattle.std.specs.Prelude.{nat_le, unwrap_or}
 use Rattle.std.proofs.lemmas.List.{take_more, take-take, take_at, drop_at, drop-take, take-append-drop, replicate-append-replicate, append-nil, drop-drop, take_all, length-replicate}
+use Rattle.std.proofs.lemmas.List.Elements.{All-push}
 use Rattle.std.proofs.lemmas.List.Sums.{fold-append}
 use Rattle.linear_memory.specs.Memory.{Memory, page_size, window, splice, put}
 use Rattle.dump_format.specs.declared.dump.Dump.{Dump}
@@ -99,6 +100,39 @@ pub pages_laid : (n i : ℕ) (bytes laid : List ℕ) → n ≤ i → length byte
 pages_laid n i bytes laid past size so_far =
     let none : page_size * (n - i) ≡ 0 = omega arith in
     so_far ∙ ap (λ (k : ℕ). take (page_size * i) bytes ++ replicate k 0) none ∙ append-nil (take (page_size * i) bytes) ∙ take_all (page_size * i) bytes (omega arith)
+
+-- ---- the pages that are made, up to one of them
+
+-- The segments are those of the first i pages that are made, of n pages that hold these bytes.
+abbrev pub Laying : ℕ → ℕ → List ℕ → List Region → Type 0
+Laying n i bytes segments = record {
+  paged : PagesUpTo i segments;
+  laid : FirstPages n i bytes (laid_on (replicate (page_size * n) 0) segments);
+  inside : All (λ r. r.at + length r.bytes ≤ page_size * n) segments;
+}
+
+-- the page at i is made
+pub laying_more : (n i : ℕ) (bytes shown : List ℕ) (old new : List Region) → i < n → length bytes ≡ page_size * n → Laying n i bytes old → shown ≡ window bytes (page_size * i) page_size
+    → new ≡ old ++ (let r : Region = record { at = page_size * i; bytes = shown } in r) ∷ [] → Laying n (i + 1) bytes new
+laying_more n i bytes shown old new below size known is more =
+    let r : Region = record { at = page_size * i; bytes = shown } in
+    let long : length shown ≡ page_size = ap length is ∙ length-window bytes i n below size in
+    let made : Laying n (i + 1) bytes (old ++ r ∷ []) = record {
+      paged = page_more old i i r known.paged (omega arith) refl long;
+      laid = page_laid n i (replicate (page_size * n) 0) bytes old r below size known.laid refl is long;
+      inside = All-push (λ (q : Region). q.at + length q.bytes ≤ page_size * n) old r known.inside (omega (arith, long, below));
+    } in
+    subst (Laying n (i + 1) bytes) (sym more) made
+
+-- the page at i is not made
+pub laying_on : (n i : ℕ) (bytes : List ℕ) (old new : List Region) → i < n → Laying n i bytes old → window bytes (page_size * i) page_size ≡ replicate page_size 0 → new ≡ old → Laying n (i + 1) bytes new
+laying_on n i bytes old new below known absent same =
+    let made : Laying n (i + 1) bytes old = record {
+      paged = page_passed old i known.paged;
+      laid = page_absent n i bytes (laid_on (replicate (page_size * n) 0) old) below known.laid absent;
+      inside = known.inside;
+    } in
+    subst (Laying n (i + 1) bytes) (sym same) made
 
 -- no memory has no pages
 pub pages_are : (memory : Option ℕ) → unwrap_or memory 0 ≡ pages_of memory

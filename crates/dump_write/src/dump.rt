@@ -79,11 +79,13 @@ fn instances(alloc: Global, memory: Option<u32>, globals: usize) -> Result<Insta
     } ∷ []) }
 {
     let count = u32::try_from(globals).unwrap_or(u32::MAX);
+    let memories = indices(alloc, u32::from(memory.is_some()))?;
+    let globals = indices(alloc, count)?;
     let mut out = Items::new(alloc);
     out.push(Instance {
         module: 0,
-        memories: indices(alloc, u32::from(memory.is_some()))?,
-        globals: indices(alloc, count)?,
+        memories,
+        globals,
     })?;
     Ok(out)
 }
@@ -91,8 +93,9 @@ fn instances(alloc: Global, memory: Option<u32>, globals: usize) -> Result<Insta
 fn one_name(alloc: Global, name: &str) -> Result<Texts, NoMemory>
     ensures { IfOk result (λ v. v ≡ name.now ∷ []) }
 {
+    let name = Text::from_str(alloc, name)?;
     let mut out = Items::new(alloc);
-    out.push(Text::from_str(alloc, name)?)?;
+    out.push(name)?;
     Ok(out)
 }
 

@@ -3,10 +3,28 @@ use Rattle.dump_format.specs.declared.dump.Frame.{Frame}
 use Rattle.dump_match.specs.Frames.{FunctionFits, LocalsFit, OperandsFit, CallFits, CalleeFits}
 use Rattle.wasm_validate.specs.calls.Deciding.{Decides}
 use Rattle.dump_match.specs.inner.Stands.{Stands}
-use Rattle.dump_match.proofs.Order.{no_locals, no_operands, no_call, no_callee, passes_all}
+use Rattle.dump_match.proofs.Order.{no_function, no_offset, no_locals, no_operands, no_call, no_callee, passes_all}
 use Rattle.dump_match.proofs.Spots.{from_spot}
 use Rattle.dump_match.proofs.frames.judge_frame.Goals as goal
 use Rattle.dump_match.proofs.FrameLists.{frame_at}
+
+pub returns-then-not-is_defined : goal.returns-then-not-is_defined
+returns-then-not-is_defined c =
+    let m = c.args.m.now in
+    let dump = c.args.dump.now in
+    let i = c.args.i in
+    let f = c.index-frames-i.result in
+    let at = frame_at c.as_slice-frames.result.now dump.frames i f c.as_slice-frames.ensures c.requires.there c.index-frames-i.is in
+    no_function m dump i f at (subst (λ b. Decides b (FunctionFits m f)) c.if-not-is_defined.true c.is_defined.ensures)
+
+pub returns-in_default : goal.returns-in_default
+returns-in_default c =
+    let m = c.args.m.now in
+    let dump = c.args.dump.now in
+    let i = c.args.i in
+    let f = c.index-frames-i.result in
+    let at = frame_at c.as_slice-frames.result.now dump.frames i f c.as_slice-frames.ensures c.requires.there c.index-frames-i.is in
+    no_offset m dump i f at (subst (λ b. Decides b (FunctionFits m f)) c.if-not-is_defined.false c.is_defined.ensures) c.in_default.ensures
 
 pub returns-then-not-locals_fit : goal.returns-then-not-locals_fit
 returns-then-not-locals_fit c =

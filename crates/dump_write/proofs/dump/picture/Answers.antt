@@ -3,7 +3,7 @@ use Rattle.std.specs.Prelude.{option_map}
 use Rattle.linear_memory.specs.Memory.{pages}
 use Rattle.linear_memory.specs.calls.Paged.{Paged}
 use Rattle.dump_write.specs.Pictured.{CoversIfThere}
-use Rattle.dump_write.proofs.Dumps.{instance_with, pictured, pictures_bytes}
+use Rattle.dump_write.proofs.Dumps.{contained_with, instance_with, pictured, pictures_bytes}
 use Rattle.dump_write.proofs.dump.picture.Goals as goal
 
 pub returns-clause-pictures : goal.returns-clause-pictures
@@ -16,3 +16,6 @@ returns-clause-pictures c held shown there is =
 
 pub returns-clause-bytes : goal.returns-clause-bytes
 returns-clause-bytes c held shown there is = pictures_bytes _ _ (returns-clause-pictures c held shown there is)
+
+pub returns-clause-contained : goal.returns-clause-contained
+returns-clause-contained c = contained_with _ c.memory_size-size.result c.in_ok-segments.field-0 c.memory_size-size.ensures.size c.in_ok-segments.ensures
