@@ -1,7 +1,7 @@
 //! What serves the imports of a module in a run: devices by name, and else a script.
 
-ghost use Rattle.std.specs.Prelude.{◌≡◌, ◌<◌, ◌≤◌, ◌++◌, ℕ, List, None, Some, IfOk, [], false, true, map, length};
-ghost use Rattle.std.specs.Prelude.{slice_get, take};
+ghost use Rattle.std.specs.Prelude.{◌≡◌, ◌<◌, ◌≤◌, ◌∷◌, ◌++◌, ℕ, List, None, Some, OnOk, OnErr, [], false, true, map};
+ghost use Rattle.std.specs.Prelude.{length, slice_get, take};
 ghost use Rattle.std.specs.Option.{option_map};
 ghost use Rattle.wasm_syntax.specs.declared.parts.FuncType.{FuncType as TypeValue};
 ghost use Rattle.wasm_syntax.specs.declared.parts.Import.{Import as ImportValue};
@@ -66,14 +66,21 @@ fn failed(alloc: Global, name: &str) -> HostAnswer
     }
 }
 
-/// The entry of a call that the script's reply of that number serves.
-fn script_entry(alloc: Global, call: &HostCall, reply: usize) -> Result<Entry, NoMemory>
-    ensures { IfOk result (λ e. e ≡ Entry.OfScript call.now reply) }
+/// Adds the entry of a call that the script's reply of that number serves.
+fn add_scripted(
+    alloc: Global,
+    entries: &mut Items<Entry>,
+    call: &HostCall,
+    reply: usize,
+) -> Result<(), NoMemory>
+    ensures added { OnOk result (entries.new
+        ≡ entries.old ++ Entry.OfScript call.now reply ∷ []) }
+    ensures unchanged { OnErr result (entries.new ≡ entries.old) }
 {
-    Ok(Entry::OfScript {
-        call: copy_call(alloc, call)?,
-        reply,
-    })
+    match copy_call(alloc, call) {
+        Ok(call) => entries.push(Entry::OfScript { call, reply }),
+        Err(NoMemory) => Err(NoMemory),
+    }
 }
 
 impl<'a, S: Devices> Hosts<'a, S> {
@@ -185,15 +192,15 @@ impl<'a, S: Devices> Hosts<'a, S> {
         let Ok(answer) = copy_reply(self.alloc, reply) else {
             return HostAnswer::NoMemory;
         };
-        let Ok(entry) = script_entry(self.alloc, call, self.given) else {
-            return HostAnswer::NoMemory;
-        };
-        match self.entries.push(entry) {
+        match add_scripted(self.alloc, &mut self.entries, call, self.given) {
             Ok(()) => {
                 self.given += 1;
                 HostAnswer::Replied(answer)
             }
-            Err(NoMemory) => HostAnswer::NoMemory,
+            Err(NoMemory) => {
+                drop(answer);
+                HostAnswer::NoMemory
+            }
         }
     }
 }

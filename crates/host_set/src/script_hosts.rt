@@ -1,6 +1,8 @@
 //! What serves all imports of a module in a run: replies that are there beforehand.
 
-ghost use Rattle.std.specs.Prelude.{◌≡◌, ◌≤◌, ℕ, List, [], None, drop, false, length, slice_get, take, true};
+ghost use Rattle.std.specs.Prelude.{◌≡◌, ◌≤◌, ◌∷◌, ◌++◌, ℕ, List, [], None, OnOk, OnErr, drop, false, length};
+ghost use Rattle.std.specs.Prelude.{slice_get, take};
+ghost use Rattle.std.specs.Prelude.{true};
 ghost use Rattle.std.specs.Option.{is_none};
 ghost use Rattle.host_devices.specs.Given.{replies_of};
 ghost use Rattle.host_devices.specs.calls.HostSides.{Answers, HasCause, IsExhausted, KeepsUse};
@@ -45,6 +47,17 @@ impl<'m, 'r> Model for ScriptHosts<'m, 'r> {
 
     ghost invariant = { λ s. (s.next ≡ s.first + length s.calls)
         × (s.next ≤ length s.replies.now) };
+}
+
+/// Adds a call.
+fn add_call(alloc: Global, calls: &mut Items<HostCall>, call: &HostCall) -> Result<(), NoMemory>
+    ensures added { OnOk result (calls.new ≡ calls.old ++ call.now ∷ []) }
+    ensures unchanged { OnErr result (calls.new ≡ calls.old) }
+{
+    match copy_call(alloc, call) {
+        Ok(copy) => calls.push(copy),
+        Err(NoMemory) => Err(NoMemory),
+    }
 }
 
 impl<'m, 'r> ScriptHosts<'m, 'r> {
@@ -129,15 +142,15 @@ impl<'m, 'r> HostSide for ScriptHosts<'m, 'r> {
         let Ok(answer) = copy_reply(self.alloc, reply) else {
             return HostAnswer::NoMemory;
         };
-        let Ok(copy) = copy_call(self.alloc, call) else {
-            return HostAnswer::NoMemory;
-        };
-        match self.calls.push(copy) {
+        match add_call(self.alloc, &mut self.calls, call) {
             Ok(()) => {
                 self.next += 1;
                 HostAnswer::Replied(answer)
             }
-            Err(NoMemory) => HostAnswer::NoMemory,
+            Err(NoMemory) => {
+                drop(answer);
+                HostAnswer::NoMemory
+            }
         }
     }
 }

@@ -10,12 +10,12 @@ ghost use Rattle.machine_hosted.specs.calls.Courses.{Course, Followed, WentOn};
 ghost use Rattle.machine_hosted.specs.inner.Resumes.{Waits, resuming};
 
 use crate::answer::{EntryRun, FunctionRun, RunEnd};
-use crate::function::run_function;
 use crate::invocation::{ended, is_finished};
-use crate::run::run_frames;
-use crate::runner::Runner;
+use crate::runner::{Runner, import_count};
+use crate::watched_function::watch_function;
+use crate::watched_run::watch_frames;
 use host_devices::HostSide;
-use machine_steps::Machine;
+use machine_steps::{Machine, Unwatched};
 use wasm_syntax::Value;
 
 /// Goes on with a function of a valid module, where it waits for steps, for at most so many. An
@@ -46,10 +46,10 @@ fn resume_function<H: HostSide>(
     ensures cause { HasCause result.answer (H.fault_count hosts.old) (H.fault_count hosts.new) }
     ensures host { HostKept H.origin H.collecting H.serving H.fault_count hosts.old hosts.new }
 {
-    if (function as usize) < runner.source.imports.len() {
-        run_function(runner, m, function, args, fuel, hosts)
+    if (function as usize) < import_count(runner.source) {
+        watch_function(runner, m, function, args, fuel, hosts, &mut Unwatched {})
     } else {
-        run_frames(runner, m, fuel, hosts)
+        watch_frames(runner, m, fuel, hosts, &mut Unwatched {})
     }
 }
 
@@ -87,7 +87,7 @@ fn resume_start<H: HostSide>(
         return ended(first.answer, first.steps, false);
     }
     let left = fuel - first.steps;
-    let then = run_function(runner, m, entry, args, left, hosts);
+    let then = watch_function(runner, m, entry, args, left, hosts, &mut Unwatched {});
     ended(then.answer, first.steps + then.steps, true)
 }
 
@@ -125,7 +125,8 @@ pub fn resume_invocation<H: HostSide>(
         let run = resume_function(runner, m, entry, args, fuel, hosts);
         return ended(run.answer, run.steps, true);
     }
-    match runner.source.start {
+    let source = runner.source.parts();
+    match source.start {
         Some(start) => resume_start(runner, m, start, entry, args, fuel, hosts),
         None => unreachable!(),
     }

@@ -84,7 +84,7 @@ pub(crate) fn serve_import<H: HostSide>(
     ensures cause { HasCause (end_of result) (H.fault_count hosts.old) (H.fault_count hosts.new) }
     ensures host { HostKept H.origin H.collecting H.serving H.fault_count hosts.old hosts.new }
 {
-    let source = runner.source;
+    let source = runner.source.parts();
     let Some(import) = source.imports.get(call.function) else {
         return Turn::Lacking;
     };

@@ -15,7 +15,7 @@ ghost use Rattle.machine_hosted.specs.calls.Watching.{Watched, function_placing}
 use crate::alone::{Imported, call_alone};
 use crate::answer::{FunctionRun, RunEnd};
 use crate::begin::begin_function;
-use crate::runner::Runner;
+use crate::runner::{Runner, import_count};
 use crate::watched_run::watch_frames;
 use causes::NoMemory;
 use host_devices::HostSide;
@@ -104,13 +104,13 @@ pub(crate) fn watch_function<H: HostSide, W: Watch>(
         (engine p (H.collecting hosts.old) runner.now.depth) function args.now w co) fuel
         result.answer result.steps watch.old watch.new (H.calls hosts.old) (H.calls hosts.new) }
 {
-    let source = runner.source;
     let index = function as usize;
-    let imported = source.imports.len();
+    let imported = import_count(runner.source);
     if index >= imported {
         let defined = index - imported;
         return watch_defined(runner, m, defined, args, fuel, hosts, watch);
     }
+    let source = runner.source.parts();
     match (source.imports.get(index), source.type_of(index)) {
         (Some(import), Some(ftype)) => {
             see_alone(fuel, watch);

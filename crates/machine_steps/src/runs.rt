@@ -1,6 +1,7 @@
 //! Steps up to the fuel.
 
-ghost use Rattle.std.specs.Prelude.{◌≡◌, ℕ, ◌<◌, ◌≤◌, ◌-◌, ◌+◌, ◌^◌, Some, length, slice_get, take, drop, IfSome, MatchOption};
+ghost use Rattle.std.specs.Prelude.{◌≡◌, ℕ, ◌<◌, ◌≤◌, ◌-◌, ◌+◌, ◌^◌, Some, length, slice_get, take, drop};
+ghost use Rattle.std.specs.Prelude.{IfSome, MatchOption};
 ghost use Rattle.wasm_syntax.specs.Machine.{Engine, Config};
 ghost use Rattle.wasm_syntax.specs.declared.instruction.Basic.{Basic as Instruction};
 ghost use Rattle.wasm_syntax.specs.declared.instruction.Instr.TheVariants as instructions;

@@ -1,6 +1,7 @@
 //! Counts of the steps of a run, by the instructions at which they are made.
 
-ghost use Rattle.std.specs.Prelude.{◌≡◌, ◌-◌, ◌≤◌, ◌++◌, ◌∷◌, List, Option, [], length, replicate, map, slice_index_or, nat_lt, true};
+ghost use Rattle.std.specs.Prelude.{◌≡◌, ◌-◌, ◌≤◌, ◌++◌, ◌∷◌, List, Option, [], length, replicate, map};
+ghost use Rattle.std.specs.Prelude.{slice_index_or, nat_lt, true};
 ghost use Rattle.std.specs.Prelude.{IfOk, OnOk};
 ghost use Rattle.wasm_syntax.specs.declared.module.ModuleParts.{ModuleParts as Module};
 ghost use Rattle.machine_steps.specs.Places.{Place, flat_place};

@@ -1,14 +1,14 @@
 //! Whether an entry may be invoked (Core 4.5.5).
 
 ghost use Rattle.std.specs.Prelude.{◌≡◌, ◌<◌, ◌^◌, length, Some, IfOk};
-ghost use Rattle.wasm_syntax.specs.Module.{function_export, is_function as names_function, same_types};
+ghost use Rattle.wasm_syntax.specs.Module.{function_export, same_types};
 ghost use Rattle.wasm_syntax.specs.Numbers.{types};
 ghost use Rattle.wasm_machine.specs.calls.Entries.{is_served, first_unserved, entry_fault};
 ghost use Rattle.wasm_machine.specs.calls.Answers.{fault_in};
 ghost use Rattle.wasm_machine.specs.inner.Callees.{is_entry, takes_arguments};
 
 use host_devices::HostSide;
-use wasm_syntax::{Export, ExportKind, Import, ModuleParts, ValType, Value};
+use wasm_syntax::{Export, ExportKind, Import, Module, ModuleParts, ValType, Value};
 use wasm_validate::Validated;
 
 /// Why an entry may not be invoked: no function is exported under its name; or the arguments are
@@ -21,20 +21,14 @@ pub enum EntryFault {
     Unserved { import: u32 },
 }
 
-fn is_function(kind: ExportKind) -> bool
-    ensures { result ≡ names_function kind }
-{
-    match kind {
-        ExportKind::Function => true,
-        ExportKind::Table | ExportKind::Memory | ExportKind::Global => false,
-    }
-}
-
 /// Whether a function is exported under this name.
 fn exports_function(export: &Export, entry: &str) -> bool
     ensures { result ≡ is_entry export.now entry.now }
 {
-    is_function(export.kind) && export.name.as_str() == entry
+    match export.kind {
+        ExportKind::Function => export.name.as_str() == entry,
+        ExportKind::Table | ExportKind::Memory | ExportKind::Global => false,
+    }
 }
 
 /// The index of the function that is exported under a name.
@@ -102,15 +96,17 @@ fn first_unserved<H: HostSide>(m: &ModuleParts, hosts: &H) -> Option<u32>
 
 /// The function that an entry names, or why it may not be invoked.
 pub(crate) fn callee<H: HostSide>(
-    m: &ModuleParts,
+    source: &Module,
     entry: &str,
     args: &[Value],
     hosts: &H,
 ) -> Result<u32, EntryFault>
-    requires { length m.now.imports < 2 ^ 32 }
-    ensures fault { fault_in result ≡ entry_fault (H.serving hosts.now) m.now entry.now args.now }
-    ensures callee { IfOk result (λ f. function_export m.now entry.now ≡ Some f) }
+    requires { length source.now.imports < 2 ^ 32 }
+    ensures fault { fault_in result
+        ≡ entry_fault (H.serving hosts.now) source.now entry.now args.now }
+    ensures callee { IfOk result (λ f. function_export source.now entry.now ≡ Some f) }
 {
+    let m = source.parts();
     let Some(function) = entry_function(m, entry) else {
         return Err(EntryFault::NoExport);
     };
@@ -133,7 +129,7 @@ pub fn entry_fault<H: HostSide>(
 ) -> Option<EntryFault>
     ensures { result ≡ entry_fault (H.serving hosts.now) source.now entry.now args.now }
 {
-    match callee(source.module().parts(), entry, args, hosts) {
+    match callee(source.module(), entry, args, hosts) {
         Ok(_) => None,
         Err(fault) => Some(fault),
     }

@@ -4,9 +4,10 @@ ghost use Rattle.std.specs.Prelude.{[], ◌≡◌, ◌+◌, ◌<◌, ◌^◌, �
 ghost use Rattle.std.specs.Prelude.{slice_get};
 ghost use Rattle.std.specs.Option.{option_copied};
 ghost use Rattle.wasm_syntax.specs.declared.value.Value.{Value as Val};
-ghost use Rattle.wasm_syntax.specs.Module.{Program, function_export};
+ghost use Rattle.wasm_syntax.specs.Module.{Program, IsProgram, function_export};
 ghost use Rattle.wasm_syntax.specs.Machine.{Config};
 ghost use Rattle.dump_write.specs.Image.{frame_images};
+ghost use Rattle.machine_code.specs.calls.Prepares.{IsPrepared};
 ghost use Rattle.machine_hosted.specs.calls.Settings.{HostKept, HostServes, Knows, Takes};
 ghost use Rattle.machine_hosted.specs.calls.Answers.{HasCause};
 ghost use Rattle.wasm_machine.specs.calls.Entries.{entry_fault};
@@ -31,7 +32,7 @@ use pm_text::Stack;
 use std::alloc::Global;
 use std::marker::Model;
 use std::rc::Rc;
-use wasm_syntax::{ModuleParts, Value, Values};
+use wasm_syntax::{Module, Value, Values};
 use wasm_validate::Validated;
 
 /// An instance of a module: its globals, its memory, its table, and the frames of its last
@@ -44,7 +45,7 @@ use wasm_validate::Validated;
 #[derive(Drop)]
 pub struct Instance<'a> {
     alloc: Global,
-    source: &'a ModuleParts,
+    source: &'a Module,
     prepared: Rc<Prepared<'a>>,
     machine: Machine,
     due: Option<u32>,
@@ -87,13 +88,17 @@ fn machine_of(alloc: Global, started: Started) -> Machine
     }
 }
 
-/// A module prepared for running, which copies of its instance can share.
-fn share<'a>(alloc: Global, prepared: Prepared<'a>) -> Result<Rc<Prepared<'a>>, NoMemory>
-    ensures { IfOk result (λ shared. shared.value ≡ prepared.entry) }
+/// The module prepared for running, which copies of its instance can share.
+fn prepare_shared<'a>(alloc: Global, source: &'a Module) -> Result<Rc<Prepared<'a>>, NoMemory>
+    ensures { (p : Program) → p.module_ ≡ source.now → IsProgram p
+        → IfOk result (λ shared. IsPrepared p shared.value) }
 {
-    match Rc::new(alloc, prepared) {
-        Ok(shared) => Ok(shared),
-        Err(_) => Err(NoMemory),
+    match prepare(alloc, source) {
+        Ok(made) => match Rc::new(alloc, made) {
+            Ok(shared) => Ok(shared),
+            Err(_) => Err(NoMemory),
+        },
+        Err(NoMemory) => Err(NoMemory),
     }
 }
 
@@ -106,20 +111,21 @@ impl<'a> Instance<'a> {
         let whole = source.module();
         let parts = whole.parts();
         let started = start(alloc, parts)?;
-        let made = prepare(alloc, whole)?;
-        let prepared = share(alloc, made)?;
-        Ok(Instance {
-            alloc,
-            source: parts,
-            prepared,
-            machine: machine_of(alloc, started),
-            due: parts.start,
-            ready: true,
-            entered: false,
-            steps: 0,
-            since_copy: 0,
-            last: None,
-        })
+        match prepare_shared(alloc, whole) {
+            Ok(prepared) => Ok(Instance {
+                alloc,
+                source: whole,
+                prepared,
+                machine: machine_of(alloc, started),
+                due: parts.start,
+                ready: true,
+                entered: false,
+                steps: 0,
+                since_copy: 0,
+                last: None,
+            }),
+            Err(NoMemory) => Err(StartFault::NoMemory),
+        }
     }
 
     /// Runs the start function, where it was not run yet, and then the function that is exported
@@ -241,19 +247,20 @@ impl<'a> Instance<'a> {
             → Seen W.Saw p (H.collecting hosts.old) depth function args.now fuel self.old self.new
             result watch.old watch.new (H.calls hosts.old) (H.calls hosts.new) }
     {
+        let alloc = self.alloc;
         let start = self.due;
         self.due = None;
         self.ready = false;
         self.entered = start.is_none();
         self.last = None;
-        let copy = match Values::from_slice(self.alloc, args) {
+        let copy = match Values::from_slice(alloc, args) {
             Ok(copy) => copy,
             Err(NoMemory) => return RunEnd::NoMemory,
         };
         let collecting = hosts.collects();
         let prepared: &Prepared = &self.prepared;
         let runner = Runner {
-            alloc: self.alloc,
+            alloc,
             source: self.source,
             prepared,
             depth: depth as usize,
@@ -330,21 +337,28 @@ impl<'a> Instance<'a> {
     pub fn copy_of(&self) -> Result<Instance<'a>, NoMemory>
         ensures { IfOk result (λ copy. copy ≡ copied self.now) }
     {
-        let prepared = self.prepared.clone()?;
-        let machine = self.machine.copy_of(self.alloc)?;
-        let last = copy_of_last(self.alloc, &self.last)?;
-        Ok(Instance {
-            alloc: self.alloc,
-            source: self.source,
-            prepared,
-            machine,
-            due: self.due,
-            ready: self.ready,
-            entered: self.entered,
-            steps: self.steps,
-            since_copy: 0,
-            last,
-        })
+        let alloc = self.alloc;
+        let Ok(last) = copy_of_last(alloc, &self.last) else {
+            return Err(NoMemory);
+        };
+        let Ok(prepared) = self.prepared.clone() else {
+            return Err(NoMemory);
+        };
+        match self.machine.copy_of(alloc) {
+            Ok(machine) => Ok(Instance {
+                alloc,
+                source: self.source,
+                prepared,
+                machine,
+                due: self.due,
+                ready: self.ready,
+                entered: self.entered,
+                steps: self.steps,
+                since_copy: 0,
+                last,
+            }),
+            Err(NoMemory) => Err(NoMemory),
+        }
     }
 
     /// Whether it may be invoked.

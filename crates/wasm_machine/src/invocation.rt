@@ -81,20 +81,6 @@ pub(crate) fn kept(
     }
 }
 
-/// The same, with arguments of its own.
-fn copy_of_one(alloc: Global, last: &LastInvocation) -> Result<LastInvocation, NoMemory>
-    ensures { IfOk result (λ copy. copy ≡ last.now) }
-{
-    let args = Values::from_slice(alloc, last.args.as_slice())?;
-    Ok(LastInvocation {
-        entry: last.entry,
-        args,
-        depth: last.depth,
-        collecting: last.collecting,
-        end: last.end,
-    })
-}
-
 /// What is kept, if anything is, once more.
 pub(crate) fn copy_of_last(
     alloc: Global,
@@ -102,8 +88,15 @@ pub(crate) fn copy_of_last(
 ) -> Result<Option<LastInvocation>, NoMemory>
     ensures { IfOk result (λ copy. copy ≡ last.now) }
 {
-    match last {
-        Some(last) => Ok(Some(copy_of_one(alloc, last)?)),
-        None => Ok(None),
-    }
+    let Some(last) = last else {
+        return Ok(None);
+    };
+    let args = Values::from_slice(alloc, last.args.as_slice())?;
+    Ok(Some(LastInvocation {
+        entry: last.entry,
+        args,
+        depth: last.depth,
+        collecting: last.collecting,
+        end: last.end,
+    }))
 }

@@ -18,7 +18,7 @@ use wasm_syntax::ModuleParts;
 
 /// Why an instance does not start: at the first segment that passes the end of what it is put into,
 /// by its index among its kind; or for want of memory.
-#[derive(Clone, Copy, Debug, PartialEq, Eq)]
+#[derive(Clone, Copy, PartialEq, Eq)]
 pub enum StartFault {
     ElementOut { index: u32 },
     DataOut { index: u32 },

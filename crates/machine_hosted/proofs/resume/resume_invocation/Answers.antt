@@ -1,5 +1,6 @@
-use Rattle.std.proofs.Common.{◌≡◌, ◌∙◌, [], refl, sym, subst}
+use Rattle.std.proofs.Common.{◌≡◌, ◌∙◌, [], refl, sym, ap, subst}
 use Rattle.std.specs.Prelude.{Bool, true, false, Some, None}
+use Rattle.wasm_syntax.specs.declared.module.ModuleParts.{ModuleParts as Module}
 use Rattle.machine_hosted.specs.declared.answer.EntryRun.{EntryRun}
 use Rattle.machine_hosted.specs.declared.answer.RunEnd.TheVariants.{FuelSpent}
 use Rattle.machine_hosted.specs.calls.Courses.{Followed, WentOn}
@@ -37,6 +38,9 @@ returns-then-entered-clause-came g c = λ p course ready e is h.
     let place = there source prepared c.requires.sound p e is collecting depth c.args.entry c.args.args.now course ready c.args.m.now f more in
     c.resume_function-run.ensures.came p place.there e is place.waits))
 
+pub resume_start-requires-clause-start : goal.resume_start-requires-clause-start
+resume_start-requires-clause-start g c = ap (λ (x : Module). x.start) (sym c.parts-source.ensures.value) ∙ c.in-Some.is
+
 pub unreachable-requires : goal.unreachable-requires
 unreachable-requires g c =
     let source = c.args.runner.now.source.now in
@@ -44,7 +48,7 @@ unreachable-requires g c =
     let p = program_of source prepared c.requires.sound in
     let s = c.requires.stopped p refl c.requires.sound.whole.write in
     let due = start_due source prepared c.requires.sound p refl c.requires.sound.whole.write (g.H.HostSide.collecting c.args.hosts.now) c.args.runner.now.depth c.args.entry c.args.args.now s.0 s.1 c.args.m.now c.args.entered s.2 c.if-entered.false in
-    let z : None ≡ Some due.0 = sym c.in-None.is ∙ due.1 in
+    let z : None ≡ Some due.0 = sym c.in-None.is ∙ ap (λ (x : Module). x.start) c.parts-source.ensures.value ∙ due.1 in
     cc
 
 pub returns-clause-came : goal.returns-clause-came

@@ -24,8 +24,8 @@ resume_function-first-requires-clause-waits g c = λ p e is.
     let place = (start_place c.args.runner.now.source.now c.args.runner.now.prepared.now c.requires.sound p e is (g.H.HostSide.collecting c.args.hosts.now) c.args.runner.now.depth c.args.entry c.args.args.now s.0 s.1 c.args.m.now false s.2 refl c.args.start c.requires.start []).2 in
     (place.there, place.waits)
 
-pub run_function-then-requires-clause-args : goal.run_function-then-requires-clause-args
-run_function-then-requires-clause-args g c =
+pub watch_function-then-requires-clause-args : goal.watch_function-then-requires-clause-args
+watch_function-then-requires-clause-args g c =
     let s = c.requires.stopped (program_of c.args.runner.now.source.now c.args.runner.now.prepared.now c.requires.sound) refl c.requires.sound.whole.write in
     s.2.takes
 
@@ -54,14 +54,14 @@ returns-clause-came g c = λ p course ready e is h.
     let collecting = g.H.HostSide.collecting c.args.hosts.now in
     let depth = c.args.runner.now.depth in
     let first = c.resume_function-first.result in
-    let then = c.run_function-then.result in
+    let then = c.watch_function-then.result in
     let mid = c.resume_function-first.new.m in
-    let later = c.run_function-then.new.m in
+    let later = c.watch_function-then.new.m in
     let old = g.H.HostSide.calls c.args.hosts.now in
     let middle = g.H.HostSide.calls c.resume_function-first.new.hosts in
-    let new = g.H.HostSide.calls c.run_function-then.new.hosts in
+    let new = g.H.HostSide.calls c.watch_function-then.new.hosts in
     let first_up = g.H.HostSide.used_up c.resume_function-first.new.hosts in
-    let up = g.H.HostSide.used_up c.run_function-then.new.hosts in
+    let up = g.H.HostSide.used_up c.watch_function-then.new.hosts in
     let yes : finishes c.resume_function-first.result.answer ≡ true = sym c.is_finished.ensures ∙ c.if-not-is_finished.false in
     let v = has_finished first.answer yes in
     subst (λ (r : EntryRun). WentOn p prepared.codes.items collecting depth c.args.entry c.args.args.now up course c.args.fuel r later old new) (sym c.ended-2.ensures)
@@ -72,4 +72,4 @@ returns-clause-came g c = λ p course ready e is h.
     (c.resume_function-first.ensures.came p place.there e is place.waits))
     (λ w co s.
     subst (λ (b : Bool). FunctionCameWith p prepared.codes.items up (function_going (engine p b depth) c.args.entry c.args.args.now w co) w co (c.args.fuel - first.steps) then.answer then.steps later middle new) c.resume_function-first.ensures.host.collecting_is
-    (c.run_function-then.ensures.came p w co e is s)))
+    (c.watch_function-then.ensures.came p w co e is s)))

@@ -1,5 +1,6 @@
-use Rattle.std.proofs.Common.{◌≡◌, ◌∙◌, sym, subst}
+use Rattle.std.proofs.Common.{◌≡◌, ◌∙◌, sym, ap, subst}
 use Rattle.std.specs.Prelude.{true, false, Some, slice_get}
+use Rattle.wasm_syntax.specs.declared.module.ModuleParts.{ModuleParts as Module}
 use Rattle.wasm_syntax.specs.Machine.{host_call}
 use Rattle.host_devices.specs.declared.host.HostAnswer.{HostAnswer}
 use Rattle.host_devices.specs.calls.HostSides as sides
@@ -9,7 +10,14 @@ use Rattle.machine_hosted.proofs.HeardLaws.{typed, few, grew_told, grew_reply, t
 use Rattle.machine_hosted.proofs.turn.serve_import.Goals as goal
 
 pub call_host-answer-requires-clause-there : goal.call_host-answer-requires-clause-there
-call_host-answer-requires-clause-there g c = c.requires.knows _ _ (sym c.in-Some.ensures.value)
+call_host-answer-requires-clause-there g c =
+    c.requires.knows _ _ (ap (λ (m : Module). slice_get m.imports c.args.call.function) (sym c.parts-source.ensures.value) ∙ sym c.in-Some.ensures.value)
+
+pub call_host-answer-requires-clause-served : goal.call_host-answer-requires-clause-served
+call_host-answer-requires-clause-served g c =
+    let a : slice_get c.args.runner.now.source.now.imports c.args.call.function ≡ Some c.in-Some.import.now = ap (λ (m : Module). slice_get m.imports c.args.call.function) (sym c.parts-source.ensures.value) ∙ sym c.in-Some.ensures.value in
+    let b : slice_get c.args.runner.now.source.now.types c.in-Some.import.now.ftype ≡ Some c.in-Some-get.ftype.now = ap (λ (m : Module). slice_get m.types c.in-Some.import.now.ftype) (sym c.parts-source.ensures.value) ∙ sym c.in-Some-get.ensures.value in
+    c.requires.calling.setting.serves c.args.call.function c.in-Some.import.now c.in-Some-get.ftype.now a b
 
 pub call_host-answer-requires-clause-types : goal.call_host-answer-requires-clause-types
 call_host-answer-requires-clause-types g c =
@@ -17,8 +25,8 @@ call_host-answer-requires-clause-types g c =
     let import = c.in-Some.import.now in
     let type = c.in-Some-get.ftype.now in
     let args = c.in-Ok.args in
-    let a : slice_get c.args.runner.now.source.now.imports c.args.call.function ≡ Some c.in-Some.import.now = sym c.in-Some.ensures.value in
-    let b : slice_get c.args.runner.now.source.now.types c.in-Some.import.now.ftype ≡ Some c.in-Some-get.ftype.now = sym c.in-Some-get.ensures.value in
+    let a : slice_get c.args.runner.now.source.now.imports c.args.call.function ≡ Some c.in-Some.import.now = ap (λ (m : Module). slice_get m.imports c.args.call.function) (sym c.parts-source.ensures.value) ∙ sym c.in-Some.ensures.value in
+    let b : slice_get c.args.runner.now.source.now.types c.in-Some.import.now.ftype ≡ Some c.in-Some-get.ftype.now = ap (λ (m : Module). slice_get m.types c.in-Some.import.now.ftype) (sym c.parts-source.ensures.value) ∙ sym c.in-Some-get.ensures.value in
     typed source c.args.call c.args.m.now (g.H.HostSide.collecting c.args.hosts.now) (g.H.HostSide.serving c.args.hosts.now) import type args a b (λ M codes k s h others below o n. c.in-Ok.ensures M codes k s h others below o (n ∙ sym c.len.ensures)) c.requires.calling
 
 pub call_host-answer-requires-clause-results : goal.call_host-answer-requires-clause-results
@@ -27,8 +35,8 @@ call_host-answer-requires-clause-results g c =
     let import = c.in-Some.import.now in
     let type = c.in-Some-get.ftype.now in
     let args = c.in-Ok.args in
-    let a : slice_get c.args.runner.now.source.now.imports c.args.call.function ≡ Some c.in-Some.import.now = sym c.in-Some.ensures.value in
-    let b : slice_get c.args.runner.now.source.now.types c.in-Some.import.now.ftype ≡ Some c.in-Some-get.ftype.now = sym c.in-Some-get.ensures.value in
+    let a : slice_get c.args.runner.now.source.now.imports c.args.call.function ≡ Some c.in-Some.import.now = ap (λ (m : Module). slice_get m.imports c.args.call.function) (sym c.parts-source.ensures.value) ∙ sym c.in-Some.ensures.value in
+    let b : slice_get c.args.runner.now.source.now.types c.in-Some.import.now.ftype ≡ Some c.in-Some-get.ftype.now = ap (λ (m : Module). slice_get m.types c.in-Some.import.now.ftype) (sym c.parts-source.ensures.value) ∙ sym c.in-Some-get.ensures.value in
     few source c.args.call c.args.m.now (g.H.HostSide.collecting c.args.hosts.now) (g.H.HostSide.serving c.args.hosts.now) import type args a b (λ M codes k s h others below o n. c.in-Ok.ensures M codes k s h others below o (n ∙ sym c.len.ensures)) c.requires.calling
 
 pub returns-then-told-clause-turned : goal.returns-then-told-clause-turned
@@ -37,8 +45,8 @@ returns-then-told-clause-turned g c = λ k.
     let import = c.in-Some.import.now in
     let type = c.in-Some-get.ftype.now in
     let args = c.in-Ok.args in
-    let a : slice_get c.args.runner.now.source.now.imports c.args.call.function ≡ Some c.in-Some.import.now = sym c.in-Some.ensures.value in
-    let b : slice_get c.args.runner.now.source.now.types c.in-Some.import.now.ftype ≡ Some c.in-Some-get.ftype.now = sym c.in-Some-get.ensures.value in
+    let a : slice_get c.args.runner.now.source.now.imports c.args.call.function ≡ Some c.in-Some.import.now = ap (λ (m : Module). slice_get m.imports c.args.call.function) (sym c.parts-source.ensures.value) ∙ sym c.in-Some.ensures.value in
+    let b : slice_get c.args.runner.now.source.now.types c.in-Some.import.now.ftype ≡ Some c.in-Some-get.ftype.now = ap (λ (m : Module). slice_get m.types c.in-Some.import.now.ftype) (sym c.parts-source.ensures.value) ∙ sym c.in-Some-get.ensures.value in
     told_meets source c.args.call c.args.m.now (g.H.HostSide.collecting c.args.hosts.now) (g.H.HostSide.serving c.args.hosts.now) import type args a b (λ M codes k s h others below o n. c.in-Ok.ensures M codes k s h others below o (n ∙ sym c.len.ensures)) k (g.H.HostSide.used_up c.call_host-answer.new.hosts) c.after_told.result c.after_told.new.m (g.H.HostSide.calls c.args.hosts.now) (g.H.HostSide.calls c.call_host-answer.new.hosts)
     (grew_told (told (g.H.HostSide.collecting c.args.hosts.now) import (host_call c.args.call.function import type args)) c.call_host-answer.result.told (host_call c.args.call.function import type args) c.in-Replied.reply (g.H.HostSide.calls c.args.hosts.now) (g.H.HostSide.calls c.call_host-answer.new.hosts) c.call_host-answer.ensures.told c.if-told.true (subst (λ (x : HostAnswer). Answers (told (g.H.HostSide.collecting c.args.hosts.now) import (host_call c.args.call.function import type args)) (host_call c.args.call.function import type args) x (g.H.HostSide.calls c.args.hosts.now) (g.H.HostSide.calls c.call_host-answer.new.hosts)) c.in-Replied.is c.call_host-answer.ensures.calls))
     (λ used_up M codes i us there kept at some. c.after_told.ensures.turned used_up M codes i us there kept at some)
@@ -52,8 +60,8 @@ returns-else-told-clause-turned g c = λ k.
     let import = c.in-Some.import.now in
     let type = c.in-Some-get.ftype.now in
     let args = c.in-Ok.args in
-    let a : slice_get c.args.runner.now.source.now.imports c.args.call.function ≡ Some c.in-Some.import.now = sym c.in-Some.ensures.value in
-    let b : slice_get c.args.runner.now.source.now.types c.in-Some.import.now.ftype ≡ Some c.in-Some-get.ftype.now = sym c.in-Some-get.ensures.value in
+    let a : slice_get c.args.runner.now.source.now.imports c.args.call.function ≡ Some c.in-Some.import.now = ap (λ (m : Module). slice_get m.imports c.args.call.function) (sym c.parts-source.ensures.value) ∙ sym c.in-Some.ensures.value in
+    let b : slice_get c.args.runner.now.source.now.types c.in-Some.import.now.ftype ≡ Some c.in-Some-get.ftype.now = ap (λ (m : Module). slice_get m.types c.in-Some.import.now.ftype) (sym c.parts-source.ensures.value) ∙ sym c.in-Some-get.ensures.value in
     reply_meets source c.args.call c.args.m.now (g.H.HostSide.collecting c.args.hosts.now) (g.H.HostSide.serving c.args.hosts.now) import type args a b (λ M codes k s h others below o n. c.in-Ok.ensures M codes k s h others below o (n ∙ sym c.len.ensures)) k (g.H.HostSide.used_up c.call_host-answer.new.hosts) c.after_reply.result c.after_reply.new.m (g.H.HostSide.calls c.args.hosts.now) (g.H.HostSide.calls c.call_host-answer.new.hosts) c.in-Replied.reply
     (grew_reply (told (g.H.HostSide.collecting c.args.hosts.now) import (host_call c.args.call.function import type args)) c.call_host-answer.result.told (host_call c.args.call.function import type args) c.in-Replied.reply (g.H.HostSide.calls c.args.hosts.now) (g.H.HostSide.calls c.call_host-answer.new.hosts) c.call_host-answer.ensures.told c.if-told.false (subst (λ (x : HostAnswer). Answers (told (g.H.HostSide.collecting c.args.hosts.now) import (host_call c.args.call.function import type args)) (host_call c.args.call.function import type args) x (g.H.HostSide.calls c.args.hosts.now) (g.H.HostSide.calls c.call_host-answer.new.hosts)) c.in-Replied.is c.call_host-answer.ensures.calls))
     (λ used_up M codes i us there left at none replies. c.after_reply.ensures.turned used_up M codes i us there left at none replies)
@@ -67,8 +75,8 @@ returns-in-NoReply-clause-turned g c = λ k.
     let import = c.in-Some.import.now in
     let type = c.in-Some-get.ftype.now in
     let args = c.in-Ok.args in
-    let a : slice_get c.args.runner.now.source.now.imports c.args.call.function ≡ Some c.in-Some.import.now = sym c.in-Some.ensures.value in
-    let b : slice_get c.args.runner.now.source.now.types c.in-Some.import.now.ftype ≡ Some c.in-Some-get.ftype.now = sym c.in-Some-get.ensures.value in
+    let a : slice_get c.args.runner.now.source.now.imports c.args.call.function ≡ Some c.in-Some.import.now = ap (λ (m : Module). slice_get m.imports c.args.call.function) (sym c.parts-source.ensures.value) ∙ sym c.in-Some.ensures.value in
+    let b : slice_get c.args.runner.now.source.now.types c.in-Some.import.now.ftype ≡ Some c.in-Some-get.ftype.now = ap (λ (m : Module). slice_get m.types c.in-Some.import.now.ftype) (sym c.parts-source.ensures.value) ∙ sym c.in-Some-get.ensures.value in
     let empty = subst (λ (x : HostAnswer). sides.IsExhausted (g.H.HostSide.used_up c.args.hosts.now import) x) c.in-NoReply.is c.call_host-answer.ensures.exhausted in
     let keeps = subst (λ (x : HostAnswer). sides.KeepsUse x (g.H.HostSide.used_up c.args.hosts.now) (g.H.HostSide.used_up c.call_host-answer.new.hosts)) c.in-NoReply.is c.call_host-answer.ensures.used in
     let none_left : g.H.HostSide.used_up c.call_host-answer.new.hosts c.in-Some.import.now ≡ true = keeps c.in-Some.import.now ∙ empty in
@@ -80,8 +88,8 @@ returns-in-Failed-clause-turned g c = λ k.
     let import = c.in-Some.import.now in
     let type = c.in-Some-get.ftype.now in
     let args = c.in-Ok.args in
-    let a : slice_get c.args.runner.now.source.now.imports c.args.call.function ≡ Some c.in-Some.import.now = sym c.in-Some.ensures.value in
-    let b : slice_get c.args.runner.now.source.now.types c.in-Some.import.now.ftype ≡ Some c.in-Some-get.ftype.now = sym c.in-Some-get.ensures.value in
+    let a : slice_get c.args.runner.now.source.now.imports c.args.call.function ≡ Some c.in-Some.import.now = ap (λ (m : Module). slice_get m.imports c.args.call.function) (sym c.parts-source.ensures.value) ∙ sym c.in-Some.ensures.value in
+    let b : slice_get c.args.runner.now.source.now.types c.in-Some.import.now.ftype ≡ Some c.in-Some-get.ftype.now = ap (λ (m : Module). slice_get m.types c.in-Some.import.now.ftype) (sym c.parts-source.ensures.value) ∙ sym c.in-Some-get.ensures.value in
     let some = subst (λ (x : HostAnswer). sides.IsExhausted (g.H.HostSide.used_up c.args.hosts.now import) x) c.in-Failed.is c.call_host-answer.ensures.exhausted in
     let keeps = subst (λ (x : HostAnswer). sides.KeepsUse x (g.H.HostSide.used_up c.args.hosts.now) (g.H.HostSide.used_up c.call_host-answer.new.hosts)) c.in-Failed.is c.call_host-answer.ensures.used in
     let some_left : g.H.HostSide.used_up c.call_host-answer.new.hosts c.in-Some.import.now ≡ false = keeps c.in-Some.import.now ∙ some in
