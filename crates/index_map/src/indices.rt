@@ -105,8 +105,7 @@ impl<'a> IndexMap<'a> {
         requires sized { Sized source.now }
         ensures { IfOk result (λ map. map ≡ source.now) }
     {
-        let map = number(alloc, source.parts())?;
-        Ok(map)
+        number(alloc, source.parts())
     }
 
     /// The module.

@@ -10,7 +10,7 @@ ghost use Rattle.wasm_syntax.specs.Run.{element_fits};
 ghost use Rattle.rewrite_bodies.specs.Numbering.{all_true, can_double, defines, doubles, element_functions};
 ghost use Rattle.rewrite_bodies.specs.Numbering.{entry_weight, is_table, table_functions, table_shown, table_weight};
 ghost use Rattle.index_map.specs.inner.Used.{AllBelow, HasMet};
-ghost use Rattle.index_map.specs.inner.Kept.{AreShown};
+ghost use Rattle.index_map.specs.inner.Kept.{AreShown, CanBeNumbered};
 
 use crate::count::{entry_weight, wide};
 use crate::used::{meet, new_places};
@@ -94,7 +94,8 @@ pub(crate) fn table_functions(
 ) -> Result<TableFunctions, NoMemory>
     requires few { length parts.now.imports + length parts.now.functions < 2 ^ 64 }
     requires there { AllBelow (length (function_types parts.now)) (element_functions parts.now) }
-    ensures { IfOk result (λ table. AreShown parts.now table.functions table.places) }
+    ensures shown { IfOk result (λ table. AreShown parts.now table.functions table.places) }
+    ensures listed { IfOk result (λ table. table.functions ≡ table_functions parts.now) }
 {
     let imports = parts.imports.len();
     let mut places = new_places(alloc, imports + parts.functions.len())?;
@@ -200,9 +201,7 @@ fn table_weight(parts: &ModuleParts, functions: &[u32]) -> u64
 /// front, which a host sees.
 pub(crate) fn doubles(parts: &ModuleParts, functions: &[u32]) -> bool
     requires functions { functions.now ≡ table_functions parts.now }
-    requires globals { length parts.now.globals < 2 ^ 32 }
-    requires wrappers { sum (map (entry_weight parts.now) functions.now) < 2 ^ 63 }
-    requires places { length (element_functions parts.now) < 2 ^ 59 }
+    requires can { CanBeNumbered parts.now }
     ensures { result ≡ doubles parts.now }
 {
     table_shown(parts.exports.as_slice())

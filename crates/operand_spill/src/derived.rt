@@ -127,6 +127,7 @@ impl Recent {
 // ---- what is found
 
 /// Whether a local has this type.
+#[tactic(auto, using(crate::proofs::Derivings::type_there, crate::proofs::Derivings::type_past))]
 fn has_type(locals: &[ValType], local: u32, t: ValType) -> bool
     ensures { result ≡ has_type locals.now local t }
 {

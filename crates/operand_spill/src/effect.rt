@@ -128,6 +128,7 @@ fn spilled(gives: Option<ValType>) -> Option<OperandPlace>
 }
 
 /// Where the value is that an instruction gives over these operands.
+#[tactic(auto, using(crate::proofs::Performing::placed))]
 pub fn result_place(
     locals: &[ValType],
     source: &ModuleParts,

@@ -1,12 +1,13 @@
 //! Which instructions of a body need a guard: those that can trap, and that no access before answers.
 
 ghost use Rattle.std.specs.Prelude.{◌≡◌, ◌||◌, ◌==◌, ◌+◌, ◌^◌, ◌<◌, ◌≤◌, ℕ, List, [], IfOk, OnOk};
-ghost use Rattle.wasm_syntax.specs.Tree.{Tree, Writes, Plain, item_of};
+ghost use Rattle.wasm_syntax.specs.Tree.{Tree, Writes, Plain, code_of, item_of};
 ghost use Rattle.rewrite_bodies.specs.calls.Slots.{local_written};
 ghost use Rattle.rewrite_bodies.specs.calls.Facts.{no_copies, copies_behind};
 ghost use Rattle.rewrite_bodies.specs.calls.Facts.{first_facts, facts_behind, frail, exposed_in};
 ghost use Rattle.operand_spill.specs.inner.Exposing.{held, deeper, marked_by, here, latest};
-ghost use Rattle.operand_spill.specs.inner.Exposing.{older, entered, begun, passed, is_exposed, one_more};
+ghost use Rattle.operand_spill.specs.inner.Exposing.{older, entered, begun, passed, is_exposed};
+ghost use Rattle.operand_spill.specs.inner.Exposing.{exposed_along, one_more};
 
 use crate::copies::KnownCopies;
 use crate::facts::{Facts, shown};
@@ -258,6 +259,26 @@ fn note(found: &mut Offsets, knowing: &Knowing, op: Op) -> Result<(), NoMemory>
     Ok(())
 }
 
+/// Notes the offsets of the instructions of a body that need a guard, where blocks write these locals.
+fn note_all(
+    found: &mut Offsets,
+    knowing: &mut Knowing,
+    marks: &BTreeSet<u32>,
+    ops: &[Op],
+) -> Result<(), NoMemory>
+    ensures { (targets : List ℕ) → OnOk result (found.new
+        ≡ exposed_along (held marks.now) knowing.old (code_of targets ops.now) found.old) }
+{
+    let mut pc = 0;
+    while pc < ops.len() {
+        let op = read_op(ops, pc);
+        note(found, knowing, op)?;
+        knowing.pass(marks, op.code)?;
+        pc += 1;
+    }
+    Ok(())
+}
+
 /// The offsets of the instructions of a body in this module that need a guard.
 pub fn exposed(alloc: Global, source: &ModuleParts, ops: &[Op]) -> Result<Offsets, NoMemory>
     ensures { (targets : List ℕ) (tree : Tree) → Writes targets ops.now tree
@@ -266,12 +287,6 @@ pub fn exposed(alloc: Global, source: &ModuleParts, ops: &[Op]) -> Result<Offset
     let marks = written_in_blocks(alloc, ops)?;
     let mut found = Offsets::new(alloc);
     let mut knowing = Knowing::new(alloc, source)?;
-    let mut pc = 0;
-    while pc < ops.len() {
-        let op = read_op(ops, pc);
-        note(&mut found, &knowing, op)?;
-        knowing.pass(&marks, op.code)?;
-        pc += 1;
-    }
+    note_all(&mut found, &mut knowing, &marks, ops)?;
     Ok(found)
 }

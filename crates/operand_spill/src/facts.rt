@@ -1,7 +1,8 @@
 //! What is known of the memory before an instruction: how many bytes from the value of a local on lie
 //! inside.
 
-ghost use Rattle.std.specs.Prelude.{◌≡◌, ◌==◌, ◌&&◌, ◌+◌, ◌*◌, nat_le, [], ◌∷◌, map, Some, None, option_map, IfOk, OnOk};
+ghost use Rattle.std.specs.Prelude.{◌≡◌, ◌==◌, ◌&&◌, ◌+◌, ◌*◌, nat_le, [], ◌∷◌, map, Some, None, option_map};
+ghost use Rattle.std.specs.Prelude.{IfOk, OnOk};
 ghost use Rattle.rewrite_bodies.specs.calls.Facts.{same_base, is_on, is_local, others, answered};
 ghost use Rattle.rewrite_bodies.specs.calls.Facts.{first_facts, noted, shown, is_answered, reach};
 ghost use Rattle.operand_spill.specs.inner.Exposing.{base_of, fact, copy, made, copies, held};
@@ -57,17 +58,6 @@ fn is_known(items: &[KnownFact], local: Option<u32>, end: u64) -> bool
         }
     }
     false
-}
-
-/// A copy of facts.
-fn copied(alloc: Global, items: &[KnownFact]) -> Result<Vec<KnownFact>, NoMemory>
-    ensures { IfOk result (λ copy. map fact copy.items ≡ map fact items.now) }
-{
-    let mut copy = Vec::new(alloc);
-    for found in items {
-        copy.push(*found)?;
-    }
-    Ok(copy)
 }
 
 /// Those on other locals than this one.
@@ -237,7 +227,7 @@ impl Facts {
     pub fn copy(&self) -> Result<Facts, NoMemory>
         ensures { IfOk result (λ copy. copy ≡ self.now) }
     {
-        let items = copied(self.alloc, self.items.as_slice())?;
+        let items = Vec::from_slice(self.alloc, self.items.as_slice())?;
         Ok(Facts {
             alloc: self.alloc,
             items,
@@ -245,6 +235,7 @@ impl Facts {
     }
 
     /// Those on another local than the one that an instruction writes are kept.
+    #[tactic(auto, using(crate::proofs::Exposings::others_none))]
     pub fn free(&mut self, written: Option<u32>) -> Result<(), NoMemory>
         ensures { OnOk result (self.new ≡ others (is_local written) self.old) }
     {

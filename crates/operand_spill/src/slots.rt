@@ -41,6 +41,7 @@ impl Model for SlotPlan {
 }
 
 /// The body of a function that the module defines.
+#[tactic(auto, using(crate::proofs::Greatest::body_read))]
 pub fn body_at(parts: &ModuleParts, func: u32) -> &Body
     requires { IsDefined parts.now func }
     ensures { body_of parts.now func ≡ Some result.now }
@@ -94,6 +95,7 @@ fn place_at(operands: &[OperandPlace], index: usize) -> Option<OperandPlace>
 }
 
 /// The constant that is known of an operand, by the number of operands below it.
+#[tactic(auto, using(crate::proofs::Knowing::known_read))]
 fn constant_at(places: &OperandPlaces, from_bottom: usize) -> Option<Value>
     ensures { result ≡ known_among (Some places.now) from_bottom }
 {

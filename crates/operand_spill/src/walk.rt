@@ -135,6 +135,7 @@ impl Walk {
     }
 
     /// A basic instruction, which takes so many operands and gives this.
+    #[tactic(auto, using(crate::proofs::Performing::performed))]
     pub fn perform_basic(
         &mut self,
         instruction: Basic,

@@ -6,7 +6,7 @@ use Rattle.wasm_syntax.specs.declared.parts.Limits.{Limits}
 use Rattle.wasm_syntax.specs.Tree.{basic}
 use Rattle.rewrite_bodies.specs.calls.Slots.{Ctx, length_at, measured}
 use Rattle.rewrite_bodies.specs.calls.Pieces.{get, set}
-use Rattle.rewrite_bodies.specs.calls.Guards.{memory_length, length_of, set_length, renewed, get_length, measure}
+use Rattle.rewrite_bodies.specs.calls.Guards.{memory_length, length_of, set_length, set_both, renew, renew_both, renewed, get_length, measure}
 use Rattle.rewrite_code.specs.calls.Writing.{Written, Emits}
 use Rattle.rewrite_code.proofs.Pieces.{emits_then}
 use Rattle.rewrite_code.proofs.Loads.{emits_same}
@@ -33,3 +33,11 @@ measures C q y {a} {b} {c} is yes_ to p r =
 
 pub unmeasured : (C : Ctx) (q : Bool) {a : Written} → q ≡ measured C → q ≡ false → Emits (measure (measured C) C) a a
 unmeasured C q {a} is no_ = subst (λ z. Emits (measure z C) a a) (sym no_ ∙ is) (record { emitted = λ k behind. refl })
+
+-- ---- both
+
+pub both_set : (C : Ctx) {a b c : Written} → Emits (set_length C.source) a b → Emits (measure (measured C) C) b c → Emits (set_both C) a c
+both_set C p q = emits_then p q
+
+pub both_renewed : (C : Ctx) {a b c : Written} → Emits (renew C.source) a b → Emits (measure (measured C) C) b c → Emits (renew_both C) a c
+both_renewed C p q = emits_then p q

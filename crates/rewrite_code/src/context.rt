@@ -44,6 +44,15 @@ pub struct FunctionContext<'m, 'a> {
     derivations: Items<Derivation>,
 }
 
+/// How a function is left: its landings, the offsets of instructions that need a guard, and the
+/// locals that are worked out where it is left.
+#[derive(Drop)]
+pub struct Exits {
+    pub landings: Landings,
+    pub exposed: Offsets,
+    pub derivations: Items<Derivation>,
+}
+
 impl<'m, 'a> Model for FunctionContext<'m, 'a> {
     ghost use Rattle.rewrite_bodies.specs.calls.Slots.{Ctx};
     ghost use Rattle.rewrite_code.specs.calls.KeptDerivations.{each_derivation};
@@ -65,14 +74,17 @@ impl<'m, 'a> FunctionContext<'m, 'a> {
         slots: u32,
         index: u32,
         gives: Option<ValType>,
-        landings: Landings,
-        exposed: Offsets,
-        derivations: Items<Derivation>,
+        exits: Exits,
     ) -> Self
         requires { FewLocals locals slots }
-        ensures { result ≡ context map.now locals slots index gives landings exposed
-            (each_derivation derivations) }
+        ensures { result ≡ context map.now locals slots index gives exits.landings exits.exposed
+            (each_derivation exits.derivations) }
     {
+        let Exits {
+            landings,
+            exposed,
+            derivations,
+        } = exits;
         FunctionContext {
             map,
             locals,
@@ -223,6 +235,7 @@ impl<'m, 'a> FunctionContext<'m, 'a> {
     }
 
     /// Reads four bytes less than the length of the memory, as an i64, in a function that keeps it.
+    #[tactic(auto, using(crate::proofs::LengthSet::length_read))]
     pub fn get_length(&self, writer: &mut CodeWriter) -> Result<(), NoMemory>
         ensures { OnOk result (Emits (get_length self.now) writer.old writer.new) }
     {
@@ -235,20 +248,6 @@ impl<'m, 'a> FunctionContext<'m, 'a> {
             writer.new) }
     {
         writer.basic(Basic::GlobalGet(self.map.length()))
-    }
-
-    /// Sets the global, behind an instruction that changes the length.
-    fn set_global(&self, writer: &mut CodeWriter) -> Result<(), NoMemory>
-        ensures { OnOk result (Emits (set_length self.now.source) writer.old writer.new) }
-    {
-        set_length(self.map, writer)
-    }
-
-    /// Sets the global where there is a memory.
-    fn renew_global(&self, writer: &mut CodeWriter) -> Result<(), NoMemory>
-        ensures { OnOk result (Emits (renew self.now.source) writer.old writer.new) }
-    {
-        renew(self.map, writer)
     }
 
     /// Sets the local of the length from the global, in a function that keeps it.
@@ -264,18 +263,20 @@ impl<'m, 'a> FunctionContext<'m, 'a> {
     }
 
     /// Sets both anew, behind an instruction that changes the length.
+    #[tactic(auto, using(crate::proofs::LengthSet::both_set))]
     pub fn set_length(&self, writer: &mut CodeWriter) -> Result<(), NoMemory>
         ensures { OnOk result (Emits (set_both self.now) writer.old writer.new) }
     {
-        self.set_global(writer)?;
+        set_length(self.map, writer)?;
         self.measure(writer)
     }
 
     /// Sets both anew behind the call of an import: the global where there is a memory.
+    #[tactic(auto, using(crate::proofs::LengthSet::both_renewed))]
     pub fn renew(&self, writer: &mut CodeWriter) -> Result<(), NoMemory>
         ensures { OnOk result (Emits (renew_both self.now) writer.old writer.new) }
     {
-        self.renew_global(writer)?;
+        renew(self.map, writer)?;
         self.measure(writer)
     }
 

@@ -1,7 +1,7 @@
 //! The landings of a function: places behind its body at which its frame is handed over, one for each
 //! list of operands, kind of trap, and part of the body.
 
-ghost use Rattle.std.specs.Prelude.{◌≡◌, ◌+◌, ◌*◌, ◌^◌, ◌<◌, ◌≤◌, [], List, map, length, reverse, IfOk, IfSome, OnOk};
+ghost use Rattle.std.specs.Prelude.{◌≡◌, ◌+◌, ◌*◌, ◌^◌, ◌<◌, ◌≤◌, [], List, map, length, IfSome, OnOk};
 ghost use Rattle.wasm_syntax.specs.Machine.{same_result};
 ghost use Rattle.wasm_syntax.specs.Numbers.{same_type};
 ghost use Rattle.rewrite_bodies.specs.calls.Slots.{Landing as LandingOf, Copied as CopiedOf, less};
@@ -182,17 +182,6 @@ fn one_kind(instruction: &Basic) -> Option<u32>
     }
 }
 
-/// A copy of operands.
-fn copied(alloc: Global, operands: &[OperandPlace]) -> Result<OperandPlaces, NoMemory>
-    ensures { IfOk result (λ copy. copy ≡ from_top operands.now) }
-{
-    let mut copy = OperandPlaces::new(alloc);
-    for operand in operands {
-        copy.push(*operand)?;
-    }
-    Ok(copy)
-}
-
 /// The landings of a function, which contracts see as a list, in the order in which they were
 /// noted.
 #[derive(Drop)]
@@ -256,7 +245,7 @@ impl Landings {
             return Ok(());
         }
         if self.items.len() < MOST {
-            let places = copied(self.alloc, operands)?;
+            let places = OperandPlaces::of(self.alloc, operands)?;
             self.items.push(Landing {
                 carried,
                 places,

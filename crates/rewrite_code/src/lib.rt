@@ -15,7 +15,7 @@ mod trapping;
 mod unwinding;
 mod writer;
 
-pub use context::FunctionContext;
+pub use context::{Exits, FunctionContext};
 pub use derivation::Derivation;
 pub use landing::{Landing, Landings, part_of};
 pub use measuring::renew;

@@ -23,6 +23,7 @@ fn memory_length(writer: &mut CodeWriter) -> Result<(), NoMemory>
 }
 
 /// Sets the global by the length of the memory, behind an instruction that changes it.
+#[tactic(auto, using(crate::proofs::LengthSet::length_set))]
 pub(crate) fn set_length(map: &IndexMap<'_>, writer: &mut CodeWriter) -> Result<(), NoMemory>
     ensures { OnOk result (Emits (set_length map.now) writer.old writer.new) }
 {

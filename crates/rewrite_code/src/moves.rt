@@ -4,7 +4,8 @@ ghost use Rattle.std.specs.Prelude.{◌≡◌, ◌+◌, ◌≤◌, List, length,
 ghost use Rattle.wasm_syntax.specs.declared.instruction.Basic.TheVariants.{LocalGet as LocalGetOf};
 ghost use Rattle.wasm_syntax.specs.Tree.{basic};
 ghost use Rattle.rewrite_bodies.specs.calls.Slots.{Place as PlaceOf, Spilled as SpilledOf, slot, less};
-ghost use Rattle.rewrite_bodies.specs.calls.Pieces.{set, fetch, load, keep_slot, keep, store, reload, spill_one, spill, drops};
+ghost use Rattle.rewrite_bodies.specs.calls.Pieces.{set, fetch, load, keep_slot, keep, store, reload};
+ghost use Rattle.rewrite_bodies.specs.calls.Pieces.{spill_one, spill, drops};
 ghost use Rattle.rewrite_code.specs.calls.Writing.{Emits};
 ghost use Rattle.rewrite_code.specs.calls.Places.{place, these};
 

@@ -1,7 +1,8 @@
 //! Where operands are.
 
-ghost use Rattle.std.specs.Prelude.{◌≡◌, ◌+◌, ◌*◌, ◌^◌, ◌<◌, ◌≤◌, [], ◌∷◌, length, map, slice_get, option_map, OnOk, OnErr};
-ghost use Rattle.std.specs.Prelude.{MatchOption};
+ghost use Rattle.std.specs.Prelude.{◌≡◌, ◌+◌, ◌*◌, ◌^◌, ◌<◌, ◌≤◌, [], ◌∷◌, length, map, slice_get};
+ghost use Rattle.std.specs.Prelude.{option_map, OnOk, OnErr};
+ghost use Rattle.std.specs.Prelude.{IfOk, MatchOption};
 ghost use Rattle.rewrite_bodies.specs.calls.Slots.{place_type, slot, less, grown, uncopied, without};
 ghost use Rattle.rewrite_code.specs.calls.Places.{place, from_top, these};
 
@@ -106,6 +107,14 @@ impl OperandPlaces {
         OperandPlaces {
             items: Vec::new(alloc),
         }
+    }
+
+    /// These operands, the lowest first.
+    pub(crate) fn of(alloc: Global, operands: &[OperandPlace]) -> Result<Self, NoMemory>
+        ensures { IfOk result (λ places. places ≡ from_top operands.now) }
+    {
+        let items = Vec::from_slice(alloc, operands)?;
+        Ok(OperandPlaces { items })
     }
 
     /// The number of operands.

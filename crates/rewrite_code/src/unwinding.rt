@@ -16,6 +16,7 @@ use wasm_syntax::Value;
 
 impl<'m, 'a> FunctionContext<'m, 'a> {
     /// The branch to the exit, out of so many open labels, which stand in those of the landings.
+    #[tactic(auto, using(crate::proofs::Loads::exit_branch))]
     pub fn to_exit(&self, writer: &mut CodeWriter, labels: u32) -> Result<(), NoMemory>
         requires { labels + most_landings + 1 < 2 ^ 32 }
         ensures { OnOk result (EmitsLast (to_exit self.now labels) writer.old writer.new) }
@@ -48,6 +49,7 @@ impl<'m, 'a> FunctionContext<'m, 'a> {
     }
 
     /// The code offset is set, the operands are handed over, and the code goes to the exit.
+    #[tactic(auto, using(crate::proofs::Loads::unwound))]
     pub fn unwind(
         &self,
         writer: &mut CodeWriter,
@@ -66,6 +68,7 @@ impl<'m, 'a> FunctionContext<'m, 'a> {
     }
 
     /// The kind on the stack is kept, and the code unwinds.
+    #[tactic(auto, using(crate::proofs::Loads::kind_kept))]
     pub fn unwind_kind(
         &self,
         writer: &mut CodeWriter,

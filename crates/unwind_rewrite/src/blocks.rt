@@ -20,6 +20,7 @@ pub(crate) fn open_two(writer: &mut CodeWriter, gives: Option<ValType>) -> Resul
 }
 
 /// `block`: the operands below it that are copies of locals go to their slots first.
+#[tactic(auto, using(crate::proofs::Branching::one_opened))]
 pub fn open_block(
     context: &FunctionContext<'_, '_>,
     writer: &mut CodeWriter,
@@ -35,6 +36,7 @@ pub fn open_block(
 }
 
 /// `loop`, in the same way.
+#[tactic(auto, using(crate::proofs::Branching::one_opened))]
 pub fn open_loop(
     context: &FunctionContext<'_, '_>,
     writer: &mut CodeWriter,
@@ -50,6 +52,7 @@ pub fn open_loop(
 }
 
 /// `if`, in the same way: these are the operands under its condition.
+#[tactic(auto, using(crate::proofs::Branching::one_opened, crate::proofs::Branching::both_opened))]
 pub fn open_if(
     context: &FunctionContext<'_, '_>,
     writer: &mut CodeWriter,
@@ -68,6 +71,7 @@ pub fn open_if(
 }
 
 /// `end`, behind which the block's result is kept, over so many operands, or passes.
+#[tactic(auto, using(crate::proofs::Branching::closed_before))]
 pub fn close_block(
     context: &FunctionContext<'_, '_>,
     writer: &mut CodeWriter,

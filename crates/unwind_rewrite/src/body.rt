@@ -28,7 +28,7 @@ use causes::NoMemory;
 use index_map::IndexMap;
 use operand_spill::{SlotPlan, body_at, derivations, exposed, landings};
 use pm_text::Items;
-use rewrite_code::{CodeWriter, FunctionContext};
+use rewrite_code::{CodeWriter, Exits, FunctionContext};
 use std::alloc::Global;
 use wasm_syntax::{Body, ModuleParts, ValType};
 
@@ -111,10 +111,12 @@ fn planned_context<'m, 'a>(
     let locals = Items::from_slice(alloc, types)?;
     let heights = plan.heights();
     let result = gives(parts, func);
-    let context = FunctionContext::new(
-        numbers, locals, heights, func, result, found, guarded, derived,
-    );
-    Ok(context)
+    let exits = Exits {
+        landings: found,
+        exposed: guarded,
+        derivations: derived,
+    };
+    Ok(FunctionContext::new(numbers, locals, heights, func, result, exits))
 }
 
 /// The body of a function of an accepted module, rewritten by its plan: that of the definitions,
@@ -141,6 +143,8 @@ pub fn rewrite_body(
 {
     let parts = numbers.source();
     let body = body_at(parts, func);
-    let context = planned_context(alloc, numbers, func, plan, body)?;
-    write_body(alloc, &context, parts, body)
+    match planned_context(alloc, numbers, func, plan, body) {
+        Ok(context) => write_body(alloc, &context, parts, body),
+        Err(NoMemory) => Err(NoMemory),
+    }
 }

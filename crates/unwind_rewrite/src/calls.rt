@@ -9,15 +9,15 @@ ghost use Rattle.wasm_syntax.specs.Module.{function_types};
 ghost use Rattle.rewrite_bodies.specs.Numbering.{doubles, import_count};
 ghost use Rattle.rewrite_bodies.specs.calls.Slots.{Place as PlaceOf, less, kind_at};
 ghost use Rattle.rewrite_bodies.specs.calls.Pieces.{call, drops, fetch, get, load, reload, set, store};
-ghost use Rattle.rewrite_bodies.specs.calls.Rewrite.{after_call, after_direct, call_code, helper_of, indirect_code};
+ghost use Rattle.rewrite_bodies.specs.calls.Rewrite.{after_direct, call_code, helper_of, indirect_code};
 ghost use Rattle.rewrite_bodies.specs.calls.Rewrite.{past_shown};
 ghost use Rattle.rewrite_bodies.specs.calls.Guards.{renew_both};
-ghost use Rattle.rewrite_code.specs.calls.Writing.{Emits, EmitsLast};
+ghost use Rattle.rewrite_code.specs.calls.Writing.{Emits};
 ghost use Rattle.rewrite_code.specs.calls.Places.{place};
 ghost use Rattle.rewrite_bodies.specs.calls.Landings.{most_landings};
 
 use crate::Site;
-use crate::left::{keep_left, reload_left, store_left, test_both, test_flag};
+use crate::left::{keep_left, test_both, test_flag};
 use causes::NoMemory;
 use guard_insert::guard_entry;
 use rewrite_code::{CodeWriter, FunctionContext, OperandPlace, OperandPlaces, drops};
@@ -37,28 +37,8 @@ fn is_imported(context: &FunctionContext<'_, '_>, function: u32) -> bool
     function < context.map().value_import(ValType::I32)
 }
 
-/// Behind a call that took so many operands and may come back with the flag up, or may have made
-/// the memory longer.
-fn after_call(
-    context: &FunctionContext<'_, '_>,
-    writer: &mut CodeWriter,
-    site: &Site<'_>,
-    count: usize,
-    gives: Option<ValType>,
-) -> Result<(), NoMemory>
-    requires shallow { site.now.labels + most_landings + 1 < 2 ^ 32 }
-    requires room { length site.now.places.now ≤ context.now.slots }
-    ensures { OnOk result (Emits (λ k. after_call context.now site.now.labels gives
-        (less count site.now.places.now) site.now.offset site.now.passing (λ es. k)) writer.old
-        writer.new) }
-{
-    keep_left(context, writer, site.passing, gives, site.places, count)?;
-    test_flag(context, writer, site, count)?;
-    context.measure(writer)
-}
-
-/// Behind the call of a function. An import cannot come back with the flag up, but its host may
-/// have made the memory longer.
+/// Behind the call of a function: an import cannot come back with the flag up, but its host may have
+/// made the memory longer; another one may have done both.
 fn after_direct(
     context: &FunctionContext<'_, '_>,
     writer: &mut CodeWriter,
@@ -75,15 +55,16 @@ fn after_direct(
 {
     let count = ftype.params.len();
     let gives = ftype.result_type();
+    keep_left(context, writer, site.passing, gives, site.places, count)?;
     if is_imported(context, function) {
-        keep_left(context, writer, site.passing, gives, site.places, count)?;
-        context.renew(writer)
-    } else {
-        after_call(context, writer, site, count, gives)
+        return context.renew(writer);
     }
+    test_flag(context, writer, site, count)?;
+    context.measure(writer)
 }
 
 /// `call`, of a function of this type.
+#[tactic(auto, using(crate::proofs::Calling::called))]
 pub fn call_function(
     context: &FunctionContext<'_, '_>,
     writer: &mut CodeWriter,
@@ -137,28 +118,8 @@ fn past_shown(context: &FunctionContext<'_, '_>, writer: &mut CodeWriter) -> Res
     }
 }
 
-/// The call with its operands, so many with the index of the entry, and its result.
-fn call_entry(
-    context: &FunctionContext<'_, '_>,
-    writer: &mut CodeWriter,
-    places: &OperandPlaces,
-    count: usize,
-    type_index: u32,
-    gives: Option<ValType>,
-) -> Result<(), NoMemory>
-    requires { length places.now ≤ context.now.slots }
-    ensures { OnOk result (EmitsLast
-        (load context.now count places.now (past_shown (doubles context.now.source) context.now
-        (jump 0 (CallIndirect type_index) (store context.now gives (less count places.now) stop))))
-        writer.old writer.new) }
-{
-    context.load(writer, count, places)?;
-    past_shown(context, writer)?;
-    writer.call_indirect(type_index)?;
-    store_left(context, writer, gives, places, count)
-}
-
-/// The call of an entry where the number on the stack is not 0.
+/// The call of an entry where the number on the stack is not 0, with its operands, so many with the
+/// index of the entry, and its result.
 fn call_where_sound(
     context: &FunctionContext<'_, '_>,
     writer: &mut CodeWriter,
@@ -174,7 +135,10 @@ fn call_where_sound(
         None stop 0 k) writer.old writer.new) }
 {
     writer.open_if(None)?;
-    call_entry(context, writer, places, count, type_index, gives)?;
+    context.load(writer, count, places)?;
+    past_shown(context, writer)?;
+    writer.call_indirect(type_index)?;
+    context.store(writer, gives, places.len().saturating_sub(count))?;
     writer.close()
 }
 
@@ -193,7 +157,7 @@ fn end_call(
 {
     drops(writer, count)?;
     context.renew(writer)?;
-    reload_left(context, writer, gives, places, count)
+    context.reload(writer, gives, places.len().saturating_sub(count))
 }
 
 /// `call_indirect`, of a function of this type; the index of the entry is the topmost operand.

@@ -6,7 +6,7 @@ ghost use Rattle.wasm_syntax.specs.Tree.{Nodes, block};
 ghost use Rattle.rewrite_bodies.specs.Numbering.{frame_import};
 ghost use Rattle.rewrite_bodies.specs.calls.Slots.{kind_at, offset_at};
 ghost use Rattle.rewrite_bodies.specs.calls.Pieces.{get, const, i32, call};
-ghost use Rattle.rewrite_bodies.specs.calls.Rewrite.{rewrite, zero_result, raise_flag};
+ghost use Rattle.rewrite_bodies.specs.calls.Rewrite.{rewrite, zero_result};
 ghost use Rattle.rewrite_bodies.specs.calls.Rewrite.{worked_out, exit_code};
 ghost use Rattle.rewrite_bodies.specs.calls.Rewrite.{hand_carried, landing_code, laid};
 ghost use Rattle.rewrite_code.specs.calls.Writing.{Written, Emits, EmitsLast, Opens};
@@ -26,14 +26,6 @@ fn zero_result(writer: &mut CodeWriter, gives: Option<ValType>) -> Result<(), No
         Some(t) => writer.const_value(t.zero()),
         None => Ok(()),
     }
-}
-
-/// Says that frames are being unwound.
-fn raise_flag(context: &FunctionContext<'_, '_>, writer: &mut CodeWriter) -> Result<(), NoMemory>
-    ensures { OnOk result (Emits (raise_flag context.now) writer.old writer.new) }
-{
-    writer.const_value(Value::I32(1))?;
-    writer.basic(Basic::GlobalSet(context.map().flag()))
 }
 
 /// How many locals the function has, with its parameters.
@@ -89,7 +81,8 @@ fn exit(context: &FunctionContext<'_, '_>, writer: &mut CodeWriter) -> Result<()
     work_out_all(context, writer)?;
     context.hand_locals(writer)?;
     end_frame(context, writer)?;
-    raise_flag(context, writer)?;
+    writer.const_value(Value::I32(1))?;
+    writer.basic(Basic::GlobalSet(context.map().flag()))?;
     zero_result(writer, context.gives())?;
     writer.return_values()
 }
@@ -181,6 +174,7 @@ pub fn open_body(context: &FunctionContext<'_, '_>, writer: &mut CodeWriter) -> 
 }
 
 /// The end of the body, behind its nodes.
+#[tactic(auto, using(crate::proofs::Landings::body_closed))]
 pub fn close_body(
     context: &FunctionContext<'_, '_>,
     writer: &mut CodeWriter,

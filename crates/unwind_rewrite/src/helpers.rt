@@ -14,6 +14,7 @@ use rewrite_code::CodeWriter;
 use wasm_syntax::{Basic, Value};
 
 /// The helper gives a kind.
+#[tactic(auto, using(crate::proofs::Bodies::says_kind))]
 fn says(writer: &mut CodeWriter, kind: u32) -> Result<(), NoMemory>
     ensures { OnOk result (EmitsLast (says kind) writer.old writer.new) }
 {
@@ -22,6 +23,7 @@ fn says(writer: &mut CodeWriter, kind: u32) -> Result<(), NoMemory>
 }
 
 /// The end of a block, behind which the helper gives a kind.
+#[tactic(auto, using(crate::proofs::Branching::closed_with))]
 fn close_says(writer: &mut CodeWriter, kind: u32) -> Result<(), NoMemory>
     ensures { OnOk result (ClosesWith (says kind) writer.old writer.new) }
 {

@@ -9,6 +9,7 @@ ghost use Rattle.unwind_rewrite.specs.calls.Numbers.{HasHelpers, Helped};
 ghost use Rattle.unwind_rewrite.specs.calls.Points.{Advances, IsBehind, Resumes};
 
 use crate::jumps::write_jump;
+use crate::site::Spot;
 use crate::{Site, close_block, instruction, open_block, open_if, open_loop};
 use causes::NoMemory;
 use operand_spill::{Flow, Label, Walk, result_place, takes};
@@ -122,7 +123,11 @@ pub(crate) fn write_live(
     match op.code {
         Instr::Basic(basic) => write_basic(context, writer, walk, parts, op.at, passing, basic),
         Instr::Jump(jump) => {
-            write_jump(context, writer, walk, parts, targets, op.at, passing, jump)
+            let spot = Spot {
+                offset: op.at,
+                passing,
+            };
+            write_jump(context, writer, walk, parts, targets, spot, jump)
         }
         Instr::Block(gives) => write_block(context, writer, walk, gives),
         Instr::Loop(gives) => write_loop(context, writer, walk, gives),

@@ -12,6 +12,7 @@ ghost use Rattle.operand_spill.specs.calls.Walking.{Walking as WalkingOf};
 ghost use Rattle.unwind_rewrite.specs.calls.Numbers.{HasHelpers, JumpHelped};
 ghost use Rattle.unwind_rewrite.specs.calls.Points.{Advances};
 
+use crate::site::Spot;
 use crate::{Site, TypeNumbers, branch_table, call_function, call_through_table, trap};
 use causes::NoMemory;
 use operand_spill::{Flow, Walk};
@@ -99,15 +100,14 @@ fn write_call(
     writer: &mut CodeWriter,
     walk: &mut Walk,
     parts: &ModuleParts,
-    offset: u32,
-    passing: bool,
+    spot: Spot,
     function: u32,
 ) -> Result<Flow, NoMemory>
     requires source { parts.now ≡ context.now.source }
     requires shallow { length walk.old.opens + most_landings + 2 < 2 ^ 32 }
     requires room { length walk.old.places ≤ context.now.slots }
-    ensures { IfOk result (Advances context.now passing offset (Goes (CallOf function)) walk.old
-        writer.old walk.new writer.new) }
+    ensures { IfOk result (Advances context.now spot.passing spot.offset (Goes (CallOf function))
+        walk.old writer.old walk.new writer.new) }
 {
     let Some(ftype) = parts.type_of(function as usize) else {
         return Ok(Flow::Ends);
@@ -119,8 +119,8 @@ fn write_call(
         &Site {
             labels,
             places: walk.places(),
-            offset,
-            passing,
+            offset: spot.offset,
+            passing: spot.passing,
         },
         function,
         ftype,
@@ -179,8 +179,7 @@ pub(crate) fn write_jump(
     walk: &mut Walk,
     parts: &ModuleParts,
     targets: &[u32],
-    offset: u32,
-    passing: bool,
+    spot: Spot,
     jump: Jump,
 ) -> Result<Flow, NoMemory>
     requires source { parts.now ≡ context.now.source }
@@ -188,11 +187,11 @@ pub(crate) fn write_jump(
     requires helped { JumpHelped context.now jump }
     requires shallow { length walk.old.opens + most_landings + 2 < 2 ^ 32 }
     requires room { length walk.old.places ≤ context.now.slots }
-    ensures { IfOk result (Advances context.now passing offset (Goes (jump_of targets.now jump))
-        walk.old writer.old walk.new writer.new) }
+    ensures { IfOk result (Advances context.now spot.passing spot.offset
+        (Goes (jump_of targets.now jump)) walk.old writer.old walk.new writer.new) }
 {
     match jump {
-        Jump::Unreachable => write_trap(context, writer, walk, offset),
+        Jump::Unreachable => write_trap(context, writer, walk, spot.offset),
         Jump::Br(label) => write_branch(writer, label),
         Jump::BrIf(label) => write_branch_if(writer, walk, label),
         Jump::BrTable(start, count, default_label) => {
@@ -200,11 +199,9 @@ pub(crate) fn write_jump(
             write_branch_table(writer, own, default_label)
         }
         Jump::Return => write_return(writer),
-        Jump::Call(function) => {
-            write_call(context, writer, walk, parts, offset, passing, function)
-        }
+        Jump::Call(function) => write_call(context, writer, walk, parts, spot, function),
         Jump::CallIndirect(ftype) => {
-            write_call_indirect(context, writer, walk, parts, offset, ftype)
+            write_call_indirect(context, writer, walk, parts, spot.offset, ftype)
         }
     }
 }

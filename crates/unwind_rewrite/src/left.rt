@@ -4,8 +4,8 @@
 ghost use Rattle.std.specs.Prelude.{◌+◌, ◌^◌, ◌<◌, ◌≤◌, length, option_map, Some, None, OnOk};
 ghost use Rattle.wasm_syntax.specs.Tree.{stop};
 ghost use Rattle.rewrite_bodies.specs.calls.Landings.{most_landings};
-ghost use Rattle.rewrite_bodies.specs.calls.Slots.{Spilled as SpilledOf, less, kind_at, offset_at};
-ghost use Rattle.rewrite_bodies.specs.calls.Pieces.{const, i32, keep, reload, set, store};
+ghost use Rattle.rewrite_bodies.specs.calls.Slots.{Spilled as SpilledOf, less, kind_at};
+ghost use Rattle.rewrite_bodies.specs.calls.Pieces.{const, i32, keep, set};
 ghost use Rattle.rewrite_bodies.specs.calls.Rewrite.{hand, hand_top, hand_left, unwind, checked, get_flag, test_flag};
 ghost use Rattle.rewrite_bodies.specs.calls.Rewrite.{test_both};
 ghost use Rattle.rewrite_code.specs.calls.Writing.{Emits, EmitsLast};
@@ -32,36 +32,6 @@ pub(crate) fn keep_left(
     context.keep_result(writer, passing, gives, height)
 }
 
-/// A result comes back from its slot over the operands under so many.
-pub(crate) fn reload_left(
-    context: &FunctionContext<'_, '_>,
-    writer: &mut CodeWriter,
-    gives: Option<ValType>,
-    places: &OperandPlaces,
-    count: usize,
-) -> Result<(), NoMemory>
-    requires { length places.now ≤ context.now.slots }
-    ensures { OnOk result (Emits (reload context.now gives (less count places.now)) writer.old
-        writer.new) }
-{
-    context.reload(writer, gives, places.len().saturating_sub(count))
-}
-
-/// A result goes to its slot over the operands under so many.
-pub(crate) fn store_left(
-    context: &FunctionContext<'_, '_>,
-    writer: &mut CodeWriter,
-    gives: Option<ValType>,
-    places: &OperandPlaces,
-    count: usize,
-) -> Result<(), NoMemory>
-    requires { length places.now ≤ context.now.slots }
-    ensures { OnOk result (Emits (store context.now gives (less count places.now)) writer.old
-        writer.new) }
-{
-    context.store(writer, gives, places.len().saturating_sub(count))
-}
-
 /// The operands under so many, the lowest first.
 fn hand_under(
     context: &FunctionContext<'_, '_>,
@@ -80,16 +50,8 @@ fn hand_under(
     Ok(())
 }
 
-/// The kind of a trap in another frame is kept.
-fn set_no_kind(context: &FunctionContext<'_, '_>, writer: &mut CodeWriter) -> Result<(), NoMemory>
-    ensures { OnOk result (Emits (λ k. const (i32 0) (set context.now (kind_at context.now) k))
-        writer.old writer.new) }
-{
-    writer.const_value(Value::I32(0))?;
-    context.set(writer, context.kind_at())
-}
-
-/// The code unwinds, with the operands under so many.
+/// The kind of a trap in another frame is kept, and the code unwinds, with the operands under so
+/// many.
 fn unwind_caller(
     context: &FunctionContext<'_, '_>,
     writer: &mut CodeWriter,
@@ -103,7 +65,8 @@ fn unwind_caller(
         (unwind context.now site.now.labels (less count site.now.places.now) site.now.offset)))
         writer.old writer.new) }
 {
-    set_no_kind(context, writer)?;
+    writer.const_value(Value::I32(0))?;
+    context.set(writer, context.kind_at())?;
     context.set_offset(writer, site.offset)?;
     hand_under(context, writer, site.places, count)?;
     context.to_exit(writer, site.labels)
@@ -185,24 +148,6 @@ fn hand_left(
     context.to_exit(writer, labels)
 }
 
-/// The code offset is kept, and the operands are handed over.
-fn unwind_both(
-    context: &FunctionContext<'_, '_>,
-    writer: &mut CodeWriter,
-    site: &Site<'_>,
-    count: usize,
-) -> Result<(), NoMemory>
-    requires shallow { site.now.labels + most_landings + 1 < 2 ^ 32 }
-    requires room { length site.now.places.now ≤ context.now.slots }
-    ensures { OnOk result (EmitsLast (const (i32 site.now.offset)
-        (set context.now (offset_at context.now)
-        (hand_left context.now site.now.labels (less count site.now.places.now)
-        (hand_top context.now count site.now.places.now stop)))) writer.old writer.new) }
-{
-    context.set_offset(writer, site.offset)?;
-    hand_left(context, writer, site.labels, site.places, count)
-}
-
 /// The code unwinds where the guard of a call gave a kind or the flag is up; so many operands were
 /// its own.
 pub(crate) fn test_both(
@@ -221,6 +166,7 @@ pub(crate) fn test_both(
     context.get_flag(writer)?;
     writer.basic(Basic::Binary(ValType::I32, Binary::Or))?;
     writer.open_if(None)?;
-    unwind_both(context, writer, site, count)?;
+    context.set_offset(writer, site.offset)?;
+    hand_left(context, writer, site.labels, site.places, count)?;
     writer.close()
 }

@@ -11,3 +11,11 @@ pub struct Site<'p> {
     pub offset: u32,
     pub passing: bool,
 }
+
+/// The code offset of an instruction, and whether what it leaves is taken before anything is handed
+/// over.
+#[derive(Clone, Copy)]
+pub(crate) struct Spot {
+    pub offset: u32,
+    pub passing: bool,
+}

@@ -7,7 +7,7 @@ ghost use Rattle.wasm_syntax.specs.declared.instruction.Basic.TheVariants.{Globa
 ghost use Rattle.wasm_syntax.specs.Tree.{Unreachable, stop, basic, jump};
 ghost use Rattle.rewrite_bodies.specs.Numbering.{value_import, frame_import, global_types};
 ghost use Rattle.rewrite_bodies.specs.calls.Pieces.{const, i32, call};
-ghost use Rattle.rewrite_modules.specs.calls.Wrappers.{get_all, tell_globals, lower_flag, end_of_dump, after_wrapped};
+ghost use Rattle.rewrite_modules.specs.calls.Wrappers.{get_all, tell_globals, lower_flag, after_wrapped};
 ghost use Rattle.rewrite_modules.specs.calls.Wrappers.{wrapper_nodes};
 ghost use Rattle.rewrite_code.specs.calls.Writing.{Emits, EmitsLast};
 
@@ -86,20 +86,7 @@ fn end_dump(map: &IndexMap<'_>, writer: &mut CodeWriter) -> Result<(), NoMemory>
     writer.unreachable()
 }
 
-/// The globals and the end of the dump.
-fn end_of_dump(
-    map: &IndexMap<'_>,
-    writer: &mut CodeWriter,
-    globals: &[Global],
-) -> Result<(), NoMemory>
-    requires { globals.now ≡ map.now.globals }
-    ensures { OnOk result (EmitsLast (end_of_dump map.now) writer.old writer.new) }
-{
-    tell_globals(map, writer, globals)?;
-    end_dump(map, writer)
-}
-
-/// Where the flag is up behind the call, the dump is ended.
+/// Where the flag is up behind the call, the globals are handed over, and the dump is ended.
 fn after_wrapped(
     map: &IndexMap<'_>,
     writer: &mut CodeWriter,
@@ -110,7 +97,8 @@ fn after_wrapped(
 {
     writer.basic(Basic::GlobalGet(map.flag()))?;
     writer.open_if(None)?;
-    end_of_dump(map, writer, globals)?;
+    tell_globals(map, writer, globals)?;
+    end_dump(map, writer)?;
     writer.close()
 }
 

@@ -12,18 +12,18 @@ use Rattle.unwind_rewrite.specs.calls.Rewritten.{program_in}
 use Rattle.unwind_rewrite.proofs.body.rewrite_body.Goals as goal
 
 pub write_body-requires-clause-source : goal.write_body-requires-clause-source
-write_body-requires-clause-source c = let r = c.in_ok-context.ensures in c.source-parts.ensures ∙ sym (ap (λ (x : Ctx). x.source) r.is)
+write_body-requires-clause-source c = let r = c.in-Ok.ensures in c.source-parts.ensures ∙ sym (ap (λ (x : Ctx). x.source) r.is)
 
 pub write_body-requires-clause-helpers : goal.write_body-requires-clause-helpers
-write_body-requires-clause-helpers c = let r = c.in_ok-context.ensures in subst HasHelpers (sym r.is) (record { base = refl; types = refl })
+write_body-requires-clause-helpers c = let r = c.in-Ok.ensures in subst HasHelpers (sym r.is) (record { base = refl; types = refl })
 
 pub write_body-requires-clause-helped : goal.write_body-requires-clause-helped
 write_body-requires-clause-helped c =
     let m = c.args.numbers.now in
     let f = c.args.func in
-    let r = c.in_ok-context.ensures in
+    let r = c.in-Ok.ensures in
     let here = subst (λ (x : Module). body_of x f ≡ Some c.body_at-body.result.now) c.source-parts.ensures c.body_at-body.ensures in
-    premises.helped m c.requires.accepted f c.body_at-body.result.now here c.in_ok-context.context (ap (λ (x : Ctx). x.source) r.is)
+    premises.helped m c.requires.accepted f c.body_at-body.result.now here c.in-Ok.context (ap (λ (x : Ctx). x.source) r.is)
 
 pub write_body-requires-clause-few : goal.write_body-requires-clause-few
 write_body-requires-clause-few c =
@@ -36,7 +36,7 @@ write_body-requires-clause-tree c =
     let m = c.args.numbers.now in
     let f = c.args.func in
     let b = c.body_at-body.result.now in
-    let r = c.in_ok-context.ensures in
+    let r = c.in-Ok.ensures in
     let here = subst (λ (x : Module). body_of x f ≡ Some b) c.source-parts.ensures c.body_at-body.ensures in
     subst (λ (x : Ctx). CanBeWritten x b) (sym r.is) (premises.can m c.requires.accepted f b here c.args.plan.now c.requires.plan r.exposed r.landings r.derivations)
 
@@ -45,24 +45,24 @@ write_body-requires-clause-low c =
     let m = c.args.numbers.now in
     let f = c.args.func in
     let b = c.body_at-body.result.now in
-    let r = c.in_ok-context.ensures in
+    let r = c.in-Ok.ensures in
     let here = subst (λ (x : Module). body_of x f ≡ Some b) c.source-parts.ensures c.body_at-body.ensures in
     subst LowLandings (sym r.is) (premises.low m c.requires.accepted f b here c.args.plan.now c.requires.plan r.exposed r.landings r.derivations r.own)
 
-pub returns-clause-code : goal.returns-clause-code
-returns-clause-code c =
+pub returns-in-Ok-clause-code : goal.returns-in-Ok-clause-code
+returns-in-Ok-clause-code c =
     let m = c.args.numbers.now in
     let f = c.args.func in
     let b = c.body_at-body.result.now in
-    let r = c.in_ok-context.ensures in
+    let r = c.in-Ok.ensures in
     let here = subst (λ (x : Module). body_of x f ≡ Some b) c.source-parts.ensures c.body_at-body.ensures in
-    premises.is_rewritten m f b here c.args.plan.now c.requires.plan r.exposed r.landings r.derivations r.shown r.own r.derived c.in_ok-context.context r.is c.write_body.result c.write_body.ensures.code
+    premises.is_rewritten m f b here c.args.plan.now c.requires.plan r.exposed r.landings r.derivations r.shown r.own r.derived c.in-Ok.context r.is c.write_body.result c.write_body.ensures.code
 
-pub returns-clause-promised : goal.returns-clause-promised
-returns-clause-promised c = λ a i old e there. premises.promised c.args.numbers.now c.args.func c.write_body.result (returns-clause-code c) a i old e there
+pub returns-in-Ok-clause-promised : goal.returns-in-Ok-clause-promised
+returns-in-Ok-clause-promised c = λ a i old e there. premises.promised c.args.numbers.now c.args.func c.write_body.result (returns-in-Ok-clause-code c) a i old e there
 
-pub returns-clause-unwinds : goal.returns-clause-unwinds
-returns-clause-unwinds c = λ a heights are depth. unwinds (program_in c.args.numbers.now a) (module_given c.args.numbers.now a.premises) heights are depth
+pub returns-in-Ok-clause-unwinds : goal.returns-in-Ok-clause-unwinds
+returns-in-Ok-clause-unwinds c = λ a heights are depth. unwinds (program_in c.args.numbers.now a) (module_given c.args.numbers.now a.premises) heights are depth
 
-pub returns-in_err-context-clause-unwinds : goal.returns-in_err-context-clause-unwinds
-returns-in_err-context-clause-unwinds c = λ a heights are depth. unwinds (program_in c.args.numbers.now a) (module_given c.args.numbers.now a.premises) heights are depth
+pub returns-in-Err-clause-unwinds : goal.returns-in-Err-clause-unwinds
+returns-in-Err-clause-unwinds c = λ a heights are depth. unwinds (program_in c.args.numbers.now a) (module_given c.args.numbers.now a.premises) heights are depth
