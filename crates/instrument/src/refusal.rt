@@ -62,12 +62,14 @@ pub fn admitted<'a>(
     }
     is_whole(source);
     offsets_are_small(source);
-    let numbers = IndexMap::new(alloc, source)?;
-    if let Some(excess) = first_excess(&numbers, heights) {
-        return Err(InstrFault::Limit {
-            what: excess.what,
-            count: excess.count,
-        });
+    match IndexMap::new(alloc, source) {
+        Ok(numbers) => match first_excess(&numbers, heights) {
+            Some(excess) => Err(InstrFault::Limit {
+                what: excess.what,
+                count: excess.count,
+            }),
+            None => Ok(numbers),
+        },
+        Err(NoMemory) => Err(InstrFault::NoMemory),
     }
-    Ok(numbers)
 }

@@ -33,6 +33,8 @@ pub fn instrument(alloc: Global, source: &Validated) -> Result<Module, InstrFaul
     requires sized { Sized source.now }
     ensures { Instrumented result source.now }
 {
-    let numbers = admitted(alloc, source.module(), source.heights())?;
-    rewritten(alloc, source, &numbers)
+    match admitted(alloc, source.module(), source.heights()) {
+        Ok(numbers) => rewritten(alloc, source, &numbers),
+        Err(fault) => Err(fault),
+    }
 }

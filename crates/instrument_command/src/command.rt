@@ -48,7 +48,11 @@ fn instrument_valid<F: Files>(
 {
     let rewritten = rewrite(alloc, source)?;
     match rewritten {
-        Given::Value(other) => write_rewritten(alloc, files, source, &other, out),
+        Given::Value(other) => {
+            let outcome = write_rewritten(alloc, files, source, &other, out);
+            drop(other);
+            outcome
+        }
         Given::Refused(refusal) => Ok(refusal),
     }
 }
@@ -73,7 +77,11 @@ fn instrument_bytes<F: Files>(
 {
     let loaded = load(alloc, bytes)?;
     match loaded {
-        Given::Value(source) => instrument_valid(alloc, files, &source, out),
+        Given::Value(source) => {
+            let outcome = instrument_valid(alloc, files, &source, out);
+            drop(source);
+            outcome
+        }
         Given::Refused(refusal) => Ok(refusal),
     }
 }

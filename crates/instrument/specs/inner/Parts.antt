@@ -15,8 +15,6 @@ use Rattle.wasm_syntax.specs.declared.parts.Body.{Body}
 use Rattle.wasm_syntax.specs.declared.module.ModuleParts.{ModuleParts as Module}
 use Rattle.wasm_syntax.specs.Module.{function_types}
 use Rattle.wasm_syntax.specs.Run.{table_min, element_at}
-use Rattle.instrument.specs.declared.module.Callable.{Callable}
-use Rattle.instrument.specs.declared.module.Stored.{Stored}
 use Rattle.rewrite_bodies.specs.Numbering.{doubles, mapped, wrapped, value_type, frame_type}
 use Rattle.rewrite_bodies.specs.calls.Pieces.{i32}
 use Rattle.rewrite_bodies.specs.calls.Guards.{less_word, helper_type}
@@ -73,25 +71,6 @@ abbrev pub renumbered : List Export → List ℕ → List Export
 renumbered [] is = []
 renumbered (e ∷ es) [] = []
 renumbered (e ∷ es) (i ∷ is) = record { name = e.name; kind = e.kind; index = i } ∷ renumbered es is
-
--- the parts by which functions are called
-abbrev pub callable : Module → Callable
-callable m = record {
-  types = m.types ++ more_types;
-  imports = m.imports ++ more_imports (length m.types);
-  functions = m.functions ++ (map (wrapper_type m) (wrapped m) ++ map (λ u. length m.types + 3) (types_used m));
-  exports = new_exports m 0 m.exports ++ memory_export m.memories;
-  elements = written_elements m;
-}
-
--- what else an instance begins with
-abbrev pub stored : Module → Stored
-stored m = record {
-  tables = new_tables m;
-  memories = m.memories;
-  globals = m.globals ++ flag ∷ measure m ∷ [];
-  segments = m.segments;
-}
 
 -- all parts, with these bodies
 abbrev pub new_parts : Module → List Body → Module

@@ -1,6 +1,5 @@
-use Rattle.std.proofs.Common.{◌≡◌, sym, ◌∙◌, subst}
+use Rattle.std.proofs.Common.{◌≡◌, sym, subst}
 use Rattle.std.specs.Prelude.{None, Err}
-use Rattle.std.proofs.lemmas.Result.{err_from_is_err_and}
 use Rattle.wasm_syntax.specs.declared.module.ModuleParts.{ModuleParts as Module}
 use Rattle.instrument.specs.Refusal.{Decided, OwnHeights, refusal}
 use Rattle.instrument.proofs.Own.{own}
@@ -13,19 +12,17 @@ admitted-requires-clause-heights c =
     let heights = c.heights.result.now in
     subst (λ (x : Module). OwnHeights x heights) (sym c.module.ensures.value) (own m heights c.module.ensures.valid c.heights.ensures c.module.ensures.heights)
 
-pub returns-in_err-numbers : goal.returns-in_err-numbers
-returns-in_err-numbers c =
+pub returns-in-Err : goal.returns-in-Err
+returns-in-Err c =
     let m = c.args.source.now in
     let heights = c.heights.result.now in
-    let fault = c.in_err-numbers.field-0.0 in
-    let is : Decided (Err fault) m heights = subst (λ (x : Module). Decided (Err fault) x heights) c.module.ensures.value c.in_err-numbers.ensures in
-    let p = err_from_is_err_and c.from_residual.result c.from_residual.ensures.1 in
-    rw (p.1, p.2) (refused m heights (own m heights c.module.ensures.valid c.heights.ensures c.module.ensures.heights) fault is)
+    let is : Decided (Err c.in-Err.fault) m heights = subst (λ (x : Module). Decided (Err c.in-Err.fault) x heights) c.module.ensures.value c.in-Err.ensures in
+    refused m heights (own m heights c.module.ensures.valid c.heights.ensures c.module.ensures.heights) c.in-Err.fault is
 
-pub returns : goal.returns
-returns c =
+pub returns-in-Ok : goal.returns-in-Ok
+returns-in-Ok c =
     let m = c.args.source.now in
     let heights = c.heights.result.now in
-    let decided = c.in_ok-numbers.ensures in
+    let decided = c.in-Ok.ensures in
     let none : refusal m heights ≡ None = subst (λ (x : Module). refusal x heights ≡ None) c.module.ensures.value decided.1 in
     answered m heights (own m heights c.module.ensures.valid c.heights.ensures c.module.ensures.heights) none c.rewritten.result c.rewritten.ensures
