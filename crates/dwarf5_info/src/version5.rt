@@ -71,8 +71,7 @@ impl<'a> UnitVersion<'a> for Five {
         if number(reader, 1)? != 4 {
             return Err(Malformed { at });
         }
-        let offset = number(reader, 4)?;
-        Ok(offset)
+        number(reader, 4)
     }
 
     fn read_pair(reader: &mut Reader<'a>) -> Result<Option<Slot>, Malformed>
@@ -166,12 +165,15 @@ impl UpToFive {
         requires { length sections.now.base.abbreviations ≤ greatest_section }
         ensures { IfOk result (AreKept sections.now) }
     {
-        match Kept::new::<Four>(alloc, sections) {
-            Ok(four) => match Kept::new::<Five>(alloc, sections) {
-                Ok(five) => Ok(UpToFive { four, five }),
-                Err(NoMemory) => Err(NoMemory),
-            },
-            Err(NoMemory) => Err(NoMemory),
+        let Ok(four) = Kept::new::<Four>(alloc, sections) else {
+            return Err(NoMemory);
+        };
+        match Kept::new::<Five>(alloc, sections) {
+            Ok(five) => Ok(UpToFive { four, five }),
+            Err(NoMemory) => {
+                drop(four);
+                Err(NoMemory)
+            }
         }
     }
 }

@@ -1,12 +1,13 @@
 //! The directories and files of a line header of version 5 (DWARF 5 sections 6.2.4 and 6.2.4.1).
 
-ghost use Rattle.std.specs.Prelude.{◌≡◌, map, IfOk, OnOk};
+ghost use Rattle.std.specs.Prelude.{◌≡◌, ◌≤◌, map, IfOk, OnOk};
 ghost use Rattle.wasm_bytes.specs.Place.{Stays};
 ghost use Rattle.wasm_bytes.specs.Reading.{forgotten, run_item, items_from};
 ghost use Rattle.wasm_bytes.specs.calls.Answers.{Reads, Gives};
 ghost use Rattle.dwarf_bytes.specs.Format.{read};
 ghost use Rattle.dwarf_info.specs.Values.{texts};
-ghost use Rattle.dwarf5_line.specs.Entries.{text_in, content, pair, describes, path_of, directory_of, entry_item};
+ghost use Rattle.dwarf5_line.specs.Entries.{text_in, number_of, content, pair, describes, path_of};
+ghost use Rattle.dwarf5_line.specs.Entries.{directory_of, entry_item};
 ghost use Rattle.dwarf5_line.specs.Entries.{counted_item, pairs_item, entries_item, name_of, tables_item};
 ghost use Rattle.dwarf5_line.specs.Layout5.{texts_of};
 ghost use Rattle.dwarf5_line.specs.inner.Summary.{summary_item, with_first};
@@ -60,6 +61,19 @@ fn text_in<'a>(
     }
 }
 
+/// The number of so many bytes that stands here.
+#[tactic(auto, unfolding(dwarf_bytes::specs::Format::read))]
+fn number_of<'a>(width: usize, reader: &mut Reader<'_>) -> Result<FormContent<'a>, Malformed>
+    requires { width ≤ 8 }
+    ensures item { Reads result reader.new (read (number_of width) reader.old) }
+    ensures stays { OnOk result (Stays reader.old reader.new) }
+{
+    match number(reader, width) {
+        Ok(number) => Ok(FormContent::Number(number)),
+        Err(fault) => Err(fault),
+    }
+}
+
 /// What stands here, in a form (DWARF 5 section 7.5.6).
 #[tactic(auto, unfolding(dwarf_bytes::specs::Format::read))]
 fn read_content<'a>(
@@ -72,22 +86,30 @@ fn read_content<'a>(
     ensures stays { OnOk result (Stays reader.old reader.new) }
 {
     match form {
-        0x05 => Ok(FormContent::Number(number(reader, 2)?)),
-        0x06 => Ok(FormContent::Number(number(reader, 4)?)),
-        0x07 => Ok(FormContent::Number(number(reader, 8)?)),
-        0x08 => Ok(FormContent::Text(Run::new(text(reader)?))),
+        0x05 => number_of(2, reader),
+        0x06 => number_of(4, reader),
+        0x07 => number_of(8, reader),
+        0x08 => match text(reader) {
+            Ok(bytes) => Ok(FormContent::Text(Run::new(bytes))),
+            Err(fault) => Err(fault),
+        },
         0x09 => {
             let len = reader.u64()?;
-            skip(len, reader)?;
-            Ok(FormContent::Unused)
+            match skip(len, reader) {
+                Ok(()) => Ok(FormContent::Unused),
+                Err(fault) => Err(fault),
+            }
         }
-        0x0b => Ok(FormContent::Number(number(reader, 1)?)),
+        0x0b => number_of(1, reader),
         0x0e => text_in(sections, TextSection::Str, reader),
-        0x0f => Ok(FormContent::Number(reader.u64()?)),
-        0x1e => {
-            reader.run(16)?;
-            Ok(FormContent::Unused)
-        }
+        0x0f => match reader.u64() {
+            Ok(number) => Ok(FormContent::Number(number)),
+            Err(fault) => Err(fault),
+        },
+        0x1e => match reader.run(16) {
+            Ok(_) => Ok(FormContent::Unused),
+            Err(fault) => Err(fault),
+        },
         0x1f => text_in(sections, TextSection::LineStr, reader),
         _ => Err(Malformed { at: reader.at() }),
     }

@@ -39,12 +39,14 @@ fn new_header<'a>(
     }
     let mut inner = open_counted(reader)?;
     let parameters = read_parameters(true, &mut inner)?;
-    let tables = read_tables(alloc, sections, &mut inner)?;
-    Ok(Header {
-        first: 0,
-        parameters,
-        tables,
-    })
+    match read_tables(alloc, sections, &mut inner) {
+        Ok(tables) => Ok(Header {
+            first: 0,
+            parameters,
+            tables,
+        }),
+        Err(fault) => Err(fault),
+    }
 }
 
 /// The headers of versions 2 to 5, whose names may stand in these sections.
@@ -134,8 +136,7 @@ pub fn scan_lines5<'a>(
         ≡ hull_if (lines_at (layout5 (texts_of sections.now)) scans.old at)) }
     ensures same { scans.new ≡ scans.old }
 {
-    let bounds = scans.bounds(alloc, &UpToFive { sections }, at)?;
-    Ok(bounds)
+    scans.bounds(alloc, &UpToFive { sections }, at)
 }
 
 /// What the line program of version 2, 3, 4 or 5 at an offset of `.debug_line` says.
@@ -153,6 +154,8 @@ pub fn read_lines5<'a>(
     ensures spelled { IsWhatStands (lines5 (texts_of sections.now)) sections.now.base.line at
         result }
 {
-    let prepared = PreparedSections::new(alloc, sections)?;
-    read_prepared_lines5(alloc, &prepared, at)
+    match PreparedSections::new(alloc, sections) {
+        Ok(prepared) => read_prepared_lines5(alloc, &prepared, at),
+        Err(NoMemory) => Err(ReadFault::NoMemory),
+    }
 }

@@ -14,6 +14,7 @@ ghost use Rattle.dwarf_abbrev.specs.calls.Grammar.{abbrevs};
 
 use crate::abbrev::{Abbrev, Abbrevs, Pair};
 use crate::table::Table;
+use causes::NoMemory;
 use dwarf_bytes::{Ended, ReadFault, ended_items};
 use pm_text::Items;
 use std::alloc::Global;
@@ -73,8 +74,10 @@ pub fn read_row<'a, R: Row<'a>>(
     }
     let tag = reader.u64()?;
     let children = read_flag(reader)?;
-    let pairs = ended_items(alloc, reader)?;
-    Ok(Some(R::made(code, tag, children, pairs)))
+    match ended_items(alloc, reader) {
+        Ok(pairs) => Ok(Some(R::made(code, tag, children, pairs))),
+        Err(fault) => Err(fault),
+    }
 }
 
 impl<'a> Row<'a> for Abbrev {
@@ -127,7 +130,10 @@ pub fn read_abbrevs(alloc: Global, section: &[u8], at: usize) -> Result<Abbrevs,
         return Err(ReadFault::Unreadable { at });
     }
     match abbrevs(alloc, &mut Reader::starting_at(section, at)) {
-        Ok(items) => Ok(Table::new(alloc, items)?),
+        Ok(items) => match Table::new(alloc, items) {
+            Ok(table) => Ok(table),
+            Err(NoMemory) => Err(ReadFault::NoMemory),
+        },
         Err(ItemFault::At(_)) => Err(ReadFault::Unreadable { at }),
         Err(ItemFault::NoMemory) => Err(ReadFault::NoMemory),
     }

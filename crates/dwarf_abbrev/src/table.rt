@@ -61,8 +61,10 @@ impl<T: Coded> Table<T> {
     pub fn new(alloc: Global, items: Items<T>) -> Result<Self, NoMemory>
         ensures { IfOk result (λ table. table ≡ items) }
     {
-        let places = places_of(alloc, items.as_slice())?;
-        Ok(Table { items, places })
+        match places_of(alloc, items.as_slice()) {
+            Ok(places) => Ok(Table { items, places }),
+            Err(NoMemory) => Err(NoMemory),
+        }
     }
 
     /// The values, in order.

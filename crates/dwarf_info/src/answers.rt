@@ -91,6 +91,6 @@ pub fn read_answers<'a, W: UnitVersions<'a>>(
         alloc,
         sections,
         versions,
-        &mut Reader::new(sections.sections().base.info),
+        &mut Reader::new(sections.sections().base().info),
     )
 }

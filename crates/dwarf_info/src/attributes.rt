@@ -1,6 +1,6 @@
 //! The attributes of an entry.
 
-ghost use Rattle.std.specs.Prelude.{◌≡◌, map, slice_get, IfOk};
+ghost use Rattle.std.specs.Prelude.{◌≡◌, map, IfOk};
 ghost use Rattle.dwarf_abbrev.specs.calls.Shared.{list_of};
 ghost use Rattle.dwarf_info.specs.Attributes.{attribute};
 ghost use Rattle.dwarf_info.specs.inner.Joined.{joined, value_at, AreOwn};
@@ -53,16 +53,6 @@ fn copied<'a>(value: &AttrValue<'a>) -> AttrValue<'a>
     }
 }
 
-/// The value of a number, from 0.
-fn own_value<'a>(own: &[AttrValue<'a>], number: usize) -> Option<AttrValue<'a>>
-    ensures { result ≡ slice_get own.now number }
-{
-    match own.get(number) {
-        Some(value) => Some(copied(value)),
-        None => None,
-    }
-}
-
 /// The value at a place, among those of an entry.
 fn value_at<'a>(own: &[AttrValue<'a>], place: SlotPlace) -> Option<AttrValue<'a>>
     ensures { result ≡ value_at own.now place }
@@ -70,7 +60,10 @@ fn value_at<'a>(own: &[AttrValue<'a>], place: SlotPlace) -> Option<AttrValue<'a>
     match place {
         SlotPlace::Present => Some(AttrValue::Flag(true)),
         SlotPlace::Implicit(value) => Some(AttrValue::Signed(value)),
-        SlotPlace::Own(number) => own_value(own, number),
+        SlotPlace::Own(number) => match own.get(number) {
+            Some(value) => Some(copied(value)),
+            None => None,
+        },
     }
 }
 

@@ -138,26 +138,6 @@ fn learn_all<'a, V: UnitVersion<'a>>(
     Ok(())
 }
 
-/// Keeps what the pairs from an offset on are, where they were learned.
-fn keep_learned(
-    growing: &GrowingPairs,
-    at: u64,
-    known: &mut BTreeMap<u64, PairsAt>,
-) -> Result<(), NoMemory>
-    ensures { OnOk result ((pair : Pair) (section : List ℕ)
-        → Knows pair section growing.now.lists (get nat_cmp growing.now.known)
-        → Knows pair section growing.now.lists (get nat_cmp known.old)
-        → Knows pair section growing.now.lists (get nat_cmp known.new)) }
-{
-    match growing.kept_at(at) {
-        Some(pairs) => match known.insert(at, pairs) {
-            Ok(_) => Ok(()),
-            Err(_) => Err(NoMemory),
-        },
-        None => Ok(()),
-    }
-}
-
 /// Keeps what the pairs of the row at an offset are, where they were learned.
 fn keep_row(
     section: &[u8],
@@ -171,10 +151,15 @@ fn keep_row(
         → Knows pair section growing.now.lists (get nat_cmp known.old)
         → Knows pair section growing.now.lists (get nat_cmp known.new)) }
 {
-    match pairs_of(&mut Reader::starting_at(section, at)) {
-        Ok(Some(pairs)) => keep_learned(growing, pairs, known),
-        Ok(None) => Ok(()),
-        Err(_) => Ok(()),
+    let Ok(Some(start)) = pairs_of(&mut Reader::starting_at(section, at)) else {
+        return Ok(());
+    };
+    let Some(pairs) = growing.kept_at(start) else {
+        return Ok(());
+    };
+    match known.insert(start, pairs) {
+        Ok(_) => Ok(()),
+        Err(_) => Err(NoMemory),
     }
 }
 
@@ -222,23 +207,6 @@ fn shared_pairs(
     }
 }
 
-/// Reads the pairs at marked offsets, and hands out what those of rows are.
-fn learned_rows<'a, V: UnitVersion<'a>>(
-    alloc: Global,
-    section: &'a [u8],
-    marks: &[Mark],
-    growing: &mut GrowingPairs,
-) -> Result<BTreeMap<u64, PairsAt>, NoMemory>
-    requires short { length section.now ≤ greatest_section }
-    requires marks { length marks.now ≤ length section.now + 1 }
-    requires knows { Knows V.pair section.now growing.old.lists (get nat_cmp growing.old.known) }
-    ensures { IfOk result (λ known. Knows V.pair section.now growing.new.lists
-        (get nat_cmp known)) }
-{
-    learn_all::<V>(section, marks, growing)?;
-    known_of_rows(alloc, section, growing, marks)
-}
-
 /// The pairs of rows at marked offsets.
 fn pairs_at<'a, V: UnitVersion<'a>>(
     alloc: Global,
@@ -254,8 +222,11 @@ fn pairs_at<'a, V: UnitVersion<'a>>(
         lists: SlotLists::new(alloc),
         known: BTreeMap::new(alloc),
     };
-    match learned_rows::<V>(alloc, section, marks, &mut growing) {
-        Ok(known) => shared_pairs(alloc, growing, known),
+    match learn_all::<V>(section, marks, &mut growing) {
+        Ok(()) => match known_of_rows(alloc, section, &growing, marks) {
+            Ok(known) => shared_pairs(alloc, growing, known),
+            Err(NoMemory) => Err(NoMemory),
+        },
         Err(NoMemory) => Err(NoMemory),
     }
 }

@@ -82,16 +82,6 @@ pub fn pairs_of(row: &mut Reader<'_>) -> Result<Option<u64>, Malformed> {
     Ok(Some(row.at() as u64))
 }
 
-/// Marks where the pairs of a row begin.
-fn mark_behind_row(section: &[u8], at: usize, marks: &mut Vec<Mark>)
-    requires { at ≤ length section.now }
-    ensures { length marks.new.items ≡ length marks.old.items }
-{
-    if let Ok(Some(at)) = pairs_of(&mut Reader::starting_at(section, at)) {
-        mark_pair(marks, at);
-    }
-}
-
 /// Marks what stands behind a pair: another one, or a row behind the end mark.
 fn mark_behind_pair<'a, V: UnitVersion<'a>>(section: &'a [u8], at: usize, marks: &mut Vec<Mark>)
     requires { at ≤ length section.now }
@@ -115,7 +105,9 @@ fn mark_all<'a, V: UnitVersion<'a>>(section: &'a [u8], marks: &mut Vec<Mark>)
     let mut at = 0;
     'offsets: while at < marks.len() {
         if marks[at].row {
-            mark_behind_row(section, at, marks);
+            if let Ok(Some(pairs)) = pairs_of(&mut Reader::starting_at(section, at)) {
+                mark_pair(marks, pairs);
+            }
         }
         if marks[at].pair {
             mark_behind_pair::<V>(section, at, marks);
@@ -136,7 +128,7 @@ pub fn marked_pairs<'a, V: UnitVersion<'a>>(
     let section = sections.abbreviations();
     match unmarked(alloc, section.len() + 1) {
         Ok(mut marks) => {
-            mark_tables::<V>(sections.base.info, &mut marks);
+            mark_tables::<V>(sections.base().info, &mut marks);
             mark_all::<V>(section, &mut marks);
             Ok(marks)
         }

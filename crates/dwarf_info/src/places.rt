@@ -2,9 +2,8 @@
 
 ghost use Rattle.std.specs.Prelude.{◌≡◌, ◌==◌, ℕ, true, slice_get, Some, None, IfOk, OnOk, if◌then◌else◌};
 ghost use Rattle.std.specs.Option.{option_or};
-ghost use Rattle.dwarf_info.specs.Units.{entries_in};
 ghost use Rattle.dwarf_info.specs.calls.EntryPlaces.{place_in, place_among};
-ghost use Rattle.dwarf_info.specs.inner.Settling.{placed, placed_by, place_of, meets};
+ghost use Rattle.dwarf_info.specs.inner.Settling.{placed, placed_by, place_of};
 ghost use Rattle.dwarf_info.specs.inner.Ascending.{ascends_from};
 
 use crate::entry::{Entry, UnitAnswer};
@@ -147,27 +146,15 @@ fn add_entries<'a>(
     Ok(())
 }
 
-fn add_unit<'a>(
-    rows: &mut Items<PlacedEntry>,
-    unit: usize,
-    answer: &UnitAnswer<'a>,
-) -> Result<(), NoMemory>
-    ensures { OnOk result ((q : ℕ) → placed rows.new q
-        ≡ option_or (placed rows.old q) (place_in unit 0 (entries_in answer.now) q)) }
-{
-    match answer {
-        UnitAnswer::Tree(tree) => add_entries(rows, unit, tree.entries.as_slice()),
-        UnitAnswer::Unreadable { section: _, at: _ } => Ok(()),
-    }
-}
-
 /// The entries of all units.
 fn all_entries<'a>(alloc: Global, units: &[UnitAnswer<'a>]) -> Result<Items<PlacedEntry>, NoMemory>
     ensures { IfOk result (λ rows. (q : ℕ) → placed rows q ≡ place_among 0 units.now q) }
 {
     let mut rows = Items::new(alloc);
     'units: for (unit, answer) in units.iter().enumerate() {
-        add_unit(&mut rows, unit, answer)?;
+        if let UnitAnswer::Tree(tree) = answer {
+            add_entries(&mut rows, unit, tree.entries.as_slice())?;
+        }
     }
     Ok(rows)
 }
@@ -186,13 +173,6 @@ impl Places {
     {
         let entries = all_entries(alloc, units)?;
         Ok(Places::new(entries))
-    }
-
-    /// Whether an entry stands at an offset.
-    pub fn contains(&self, at: u32) -> bool
-        ensures { result ≡ meets (placed self.now) at }
-    {
-        self.get(at).is_some()
     }
 
     /// The place of the entry at an offset.

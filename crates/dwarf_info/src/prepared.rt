@@ -36,7 +36,7 @@ impl<'a> PreparedSections<'a> {
     pub fn new(alloc: Global, sections: &Sections5<'a>) -> Result<Self, NoMemory>
         ensures { IfOk result (λ prepared. prepared ≡ sections.now) }
     {
-        match Texts::new(alloc, sections.base.str) {
+        match Texts::new(alloc, sections.base().str) {
             Ok(str) => match Texts::new(alloc, sections.line_str) {
                 Ok(line_str) => Ok(PreparedSections {
                     sections: sections.borrowed(),

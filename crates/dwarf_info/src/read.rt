@@ -3,7 +3,7 @@
 ghost use Rattle.std.specs.Prelude.{◌≡◌, ◌≤◌, length, IfOk};
 ghost use Rattle.dwarf_info.specs.Sections.{IsReadable, greatest_section};
 ghost use Rattle.dwarf_info.specs.Units.{settled, units_of};
-ghost use Rattle.dwarf_info.specs.Version4.{only4, units4};
+ghost use Rattle.dwarf_info.specs.Version4.{units4};
 ghost use Rattle.dwarf_info.specs.calls.Grammar4.{IsUnits4};
 
 use crate::answers::read_answers;
@@ -32,23 +32,8 @@ fn settled<'a>(alloc: Global, answers: Items<UnitAnswer<'a>>) -> Result<Units<'a
     }
 }
 
-#[tactic(auto, unfolding(crate::specs::Units::units_of))]
-fn read_prepared<'a, W: UnitVersions<'a>>(
-    alloc: Global,
-    sections: &PreparedSections<'a>,
-    versions: &mut W,
-) -> Result<Units<'a>, NoMemory>
-    requires ready { W.is_ready sections.now versions.old }
-    requires short { length sections.now.base.info ≤ greatest_section }
-    ensures { IfOk result (λ units. units ≡ units_of sections.now W.versions) }
-{
-    match read_answers(alloc, sections, versions) {
-        Ok(answers) => settled(alloc, answers),
-        Err(NoMemory) => Err(NoMemory),
-    }
-}
-
 /// The units of `.debug_info`, in order. Those of the given versions are read.
+#[tactic(auto, unfolding(crate::specs::Units::units_of))]
 pub fn read_all<'a, W: UnitVersions<'a>>(
     alloc: Global,
     sections: &Sections5<'a>,
@@ -59,34 +44,15 @@ pub fn read_all<'a, W: UnitVersions<'a>>(
     ensures { IfOk result (λ units. units ≡ units_of sections.now W.versions) }
 {
     match PreparedSections::new(alloc, sections) {
-        Ok(prepared) => read_prepared(alloc, &prepared, versions),
+        Ok(prepared) => {
+            let read = read_answers(alloc, &prepared, versions);
+            match read {
+                Ok(answers) => settled(alloc, answers),
+                Err(NoMemory) => Err(NoMemory),
+            }
+        }
         Err(NoMemory) => Err(NoMemory),
     }
-}
-
-/// The units of `.debug_info`. Those of the given versions are read, if there was memory for them.
-fn read_by<'a, W: UnitVersions<'a> + Drop>(
-    alloc: Global,
-    sections: &Sections5<'a>,
-    versions: Result<W, NoMemory>,
-) -> Result<Units<'a>, NoMemory>
-    requires ready { IfOk versions (W.is_ready sections.now) }
-    requires short { length sections.now.base.info ≤ greatest_section }
-    ensures { IfOk result (λ units. units ≡ units_of sections.now W.versions) }
-{
-    match versions {
-        Ok(mut versions) => read_all(alloc, sections, &mut versions),
-        Err(NoMemory) => Err(NoMemory),
-    }
-}
-
-/// The units of `.debug_info`, of which those of version 4 are read.
-fn read_four<'a>(alloc: Global, sections: &Sections5<'a>) -> Result<Units<'a>, NoMemory>
-    requires info { length sections.now.base.info ≤ greatest_section }
-    requires abbreviations { length sections.now.base.abbreviations ≤ greatest_section }
-    ensures { IfOk result (λ units. units ≡ units_of sections.now only4) }
-{
-    read_by(alloc, sections, OnlyFour::new(alloc, sections))
 }
 
 /// The units of `.debug_info`, in order (DWARF 4 section 7.5.1). Those of version 4 are read; in
@@ -98,5 +64,12 @@ pub fn read_units<'a>(alloc: Global, sections: &Sections<'a>) -> Result<Units<'a
     ensures spelled { IfOk result (IsUnits4 sections.now) }
 {
     let all = Sections5::without5(sections);
-    read_four(alloc, &all)
+    match OnlyFour::new(alloc, &all) {
+        Ok(mut versions) => {
+            let units = read_all(alloc, &all, &mut versions);
+            drop(versions);
+            units
+        }
+        Err(NoMemory) => Err(NoMemory),
+    }
 }

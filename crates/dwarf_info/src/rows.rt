@@ -6,7 +6,7 @@ ghost use Rattle.std.specs.BTreeMap.{get};
 ghost use Rattle.wasm_bytes.specs.Place.{Moves, Stays};
 ghost use Rattle.wasm_bytes.specs.calls.Answers.{Gives};
 ghost use Rattle.dwarf_bytes.specs.Items.{ended_from, ended_item};
-ghost use Rattle.dwarf_info.specs.calls.Keeping.{FirstRow, row_item, rows_of};
+ghost use Rattle.dwarf_info.specs.calls.Keeping.{row_item};
 ghost use Rattle.dwarf_info.specs.calls.Pairs.{AreThere, Knows, told};
 
 use crate::form::{Shape, Slot};
@@ -99,7 +99,8 @@ fn read_slots<'a, V: UnitVersion<'a>>(
     }
 }
 
-fn read_shape<'a, V: UnitVersion<'a>>(
+/// The first row of the table at a place, or None at its end.
+pub fn read_row<'a, V: UnitVersion<'a>>(
     alloc: Global,
     section: &'a [u8],
     pairs: &KnownPairs,
@@ -125,20 +126,4 @@ fn read_shape<'a, V: UnitVersion<'a>>(
         })),
         Err(fault) => Err(fault),
     }
-}
-
-/// The first row of the table at a place, or None at its end.
-pub fn read_row<'a, V: UnitVersion<'a>>(
-    alloc: Global,
-    section: &'a [u8],
-    pairs: &KnownPairs,
-    reader: &mut Reader<'a>,
-) -> Result<Option<Shape>, ItemFault>
-    requires section { reader.old.block ≡ section.now }
-    requires knows { Knows V.pair section.now pairs.now.lists.value (get nat_cmp pairs.now.known) }
-    ensures item { FirstRow (rows_of V.pair) reader.old result reader.new }
-    ensures moves { OnOk result (Moves reader.old reader.new) }
-{
-    let row = read_shape::<V>(alloc, section, pairs, reader);
-    row
 }

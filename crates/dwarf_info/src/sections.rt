@@ -105,11 +105,18 @@ impl<'a> Sections5<'a> {
         }
     }
 
+    /// Those that version 4 has.
+    pub(crate) fn base(&self) -> &Sections<'a>
+        ensures { result.now ≡ self.now.base }
+    {
+        &self.base
+    }
+
     /// `.debug_abbrev`
     pub(crate) fn abbreviations(&self) -> &'a [u8]
         ensures { result.now ≡ self.now.base.abbreviations }
     {
-        self.base.abbrev
+        self.base().abbrev
     }
 
     /// The same sections once more.

@@ -1,7 +1,7 @@
 //! References: which of them meet an entry.
 
 ghost use Rattle.std.specs.Prelude.{◌≡◌, map, IfOk};
-ghost use Rattle.dwarf_info.specs.inner.Settling.{placed, meets, settled_by, entry_by, unit_by, answer_by, is_met};
+ghost use Rattle.dwarf_info.specs.inner.Settling.{placed, meets, settled_by, entry_by, answer_by, is_met};
 
 use crate::entry::{AttrValue, Entries, Entry, Unit, UnitAnswer};
 use crate::places::Places;
@@ -14,7 +14,7 @@ pub fn is_met<'a>(places: &Places, value: &AttrValue<'a>) -> bool
     ensures { result ≡ is_met (meets (placed places.now)) value.now }
 {
     match value {
-        AttrValue::Reference(at) => places.contains(*at),
+        AttrValue::Reference(at) => places.get(*at).is_some(),
         _ => true,
     }
 }
@@ -46,21 +46,15 @@ fn settled_entries<'a>(places: &Places, entries: Entries<'a>) -> Entries<'a>
     Items::from_vec(kept)
 }
 
-fn settled_unit<'a>(places: &Places, unit: Unit<'a>) -> Unit<'a>
-    ensures { result ≡ unit_by (meets (placed places.now)) unit.entry }
-{
-    Unit {
-        at: unit.at,
-        version: unit.version,
-        entries: settled_entries(places, unit.entries),
-    }
-}
-
 fn settled_answer<'a>(places: &Places, answer: UnitAnswer<'a>) -> UnitAnswer<'a>
     ensures { result ≡ answer_by (meets (placed places.now)) answer.entry }
 {
     match answer {
-        UnitAnswer::Tree(unit) => UnitAnswer::Tree(settled_unit(places, unit)),
+        UnitAnswer::Tree(unit) => UnitAnswer::Tree(Unit {
+            at: unit.at,
+            version: unit.version,
+            entries: settled_entries(places, unit.entries),
+        }),
         UnitAnswer::Unreadable { section, at } => UnitAnswer::Unreadable { section, at },
     }
 }

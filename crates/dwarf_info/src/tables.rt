@@ -173,35 +173,6 @@ fn keep_rows<'a, V: UnitVersion<'a>>(
     Ok(table)
 }
 
-/// The number of the table at an offset of the section, if one stands there.
-fn read_table<'a, V: UnitVersion<'a>>(
-    alloc: Global,
-    sections: &PreparedSections<'a>,
-    section: &'a [u8],
-    pairs: &KnownPairs,
-    tables: &mut Tables,
-    at: usize,
-) -> Result<Option<u32>, NoMemory>
-    requires kept { Keeps (rows_of V.pair) sections.now tables.old }
-    requires knows { KnowsAll V.pair sections.now pairs.now }
-    requires section { section.now ≡ sections.now.base.abbreviations }
-    requires inside { at ≤ length section.now }
-    ensures kept { Keeps (rows_of V.pair) sections.now tables.new }
-    ensures table { IfOk result (λ table. IsTable (rows_of V.pair) sections.now.base.abbreviations at
-        (numbered tables.new table)) }
-{
-    let mut rows = Items::new(alloc);
-    let stop = read_rows::<V>(alloc, sections, section, pairs, tables, at, &mut rows)?;
-    keep_rows::<V>(sections, tables, at as u64, &mut rows, stop)
-}
-
-/// `.debug_abbrev`
-fn abbreviations<'a>(sections: &PreparedSections<'a>) -> &'a [u8]
-    ensures { result.now ≡ sections.now.base.abbreviations }
-{
-    sections.sections().abbreviations()
-}
-
 /// The number of the table at an offset, if one stands there. What was read before is not read
 /// again.
 pub fn select<'a, V: UnitVersion<'a>>(
@@ -218,9 +189,14 @@ pub fn select<'a, V: UnitVersion<'a>>(
     ensures kept { Keeps (rows_of V.pair) sections.now tables.new }
 {
     V::rows_are_shapes();
-    let section = abbreviations(sections);
+    let section = sections.sections().abbreviations();
     if at > section.len() as u64 {
         return Ok(None);
     }
-    read_table::<V>(alloc, sections, section, pairs, tables, at as usize)
+    let start = at as usize;
+    let mut rows = Items::new(alloc);
+    match read_rows::<V>(alloc, sections, section, pairs, tables, start, &mut rows) {
+        Ok(stop) => keep_rows::<V>(sections, tables, at, &mut rows, stop),
+        Err(NoMemory) => Err(NoMemory),
+    }
 }

@@ -1,9 +1,9 @@
 //! A section of texts, in which the end of a text is found by halving.
 
-ghost use Rattle.std.specs.Prelude.{◌≡◌, ◌++◌, nat_le, find, slice_get, IfOk, OnOk};
+ghost use Rattle.std.specs.Prelude.{◌≡◌, nat_le, find, slice_get, IfOk};
 ghost use Rattle.std.specs.List.Sorted.{IsNonDecreasing};
 ghost use Rattle.dwarf_bytes.specs.Items.{text_item, read_at};
-ghost use Rattle.dwarf_info.specs.inner.Zeros.{zero_at, zeros_from};
+ghost use Rattle.dwarf_info.specs.inner.Zeros.{zeros_from};
 
 use causes::NoMemory;
 use std::alloc::Global;
@@ -29,23 +29,15 @@ impl<'a> Model for Texts<'a> {
     ghost invariant = { λ t. t.zeros.items ≡ zeros_from 0 t.section.now };
 }
 
-/// One more offset, if the byte there is zero.
-fn add_zero(zeros: &mut Vec<usize>, at: usize, byte: u8) -> Result<(), NoMemory>
-    ensures { OnOk result (zeros.new.items ≡ zeros.old.items ++ zero_at at byte) }
-{
-    if byte == 0 {
-        zeros.push(at)?;
-    }
-    Ok(())
-}
-
 /// The offsets of the zero bytes of a section.
 fn zeros_of(alloc: Global, section: &[u8]) -> Result<Vec<usize>, NoMemory>
     ensures { IfOk result (λ zeros. zeros.items ≡ zeros_from 0 section.now) }
 {
     let mut zeros = Vec::new(alloc);
     'bytes: for (at, byte) in section.iter().enumerate() {
-        add_zero(&mut zeros, at, *byte)?;
+        if *byte == 0 {
+            zeros.push(at)?;
+        }
     }
     Ok(zeros)
 }

@@ -11,7 +11,7 @@ ghost use Rattle.dwarf_info.specs.Entries.{root_attributes};
 ghost use Rattle.dwarf_info.specs.inner.Contexts.{IsIndex};
 ghost use Rattle.dwarf_info.specs.calls.Keeping.{Keeps, rows_of};
 ghost use Rattle.dwarf_info.specs.calls.Pairs.{KnowsAll};
-ghost use Rattle.dwarf_info.specs.Units.{rooted_item, padding_item, body_item, unit_item, whole_unit};
+ghost use Rattle.dwarf_info.specs.Units.{rooted_item, padding_item, body_item, whole_unit};
 
 use crate::attributes::Attributes;
 use crate::context::UnitContext;
@@ -150,26 +150,8 @@ fn read_padding<'a>(reader: &mut Reader<'a>) -> Result<&'a [u8], Malformed>
     }
 }
 
-#[tactic(auto, unfolding(crate::specs::Units::unit_item))]
-fn read_unit<'a, W: UnitVersions<'a>>(
-    alloc: Global,
-    sections: &PreparedSections<'a>,
-    versions: &mut W,
-    origin: u32,
-    reader: &mut Reader<'a>,
-) -> Result<Unit<'a>, ItemFault>
-    requires ready { W.is_ready sections.now versions.old }
-    requires short { length reader.old.block ≤ greatest_section }
-    ensures item { Gives result reader.new (unit_item sections.now W.versions origin reader.old) }
-    ensures stays { OnOk result (Stays reader.old reader.new) }
-    ensures ready { W.is_ready sections.now versions.new }
-{
-    let version = number(reader, 2)?;
-    versions.read_body(alloc, sections, origin, version as u32, reader)
-}
-
 /// All of a unit, whose length stands at that offset.
-#[tactic(auto, unfolding(crate::specs::Units::whole_unit))]
+#[tactic(auto, unfolding(crate::specs::Units::whole_unit, crate::specs::Units::unit_item))]
 pub fn read_whole<'a, W: UnitVersions<'a>>(
     alloc: Global,
     sections: &PreparedSections<'a>,
@@ -182,11 +164,12 @@ pub fn read_whole<'a, W: UnitVersions<'a>>(
     ensures item { Gives result reader.new (whole_unit sections.now W.versions origin reader.old) }
     ensures ready { W.is_ready sections.now versions.new }
 {
-    match read_unit(alloc, sections, versions, origin, reader) {
-        Ok(unit) => {
-            let _zeros = read_padding(reader)?;
-            Ok(unit)
-        }
+    let version = number(reader, 2)?;
+    match versions.read_body(alloc, sections, origin, version as u32, reader) {
+        Ok(unit) => match read_padding(reader) {
+            Ok(_) => Ok(unit),
+            Err(fault) => Err(ItemFault::At(fault.at)),
+        },
         Err(fault) => Err(fault),
     }
 }

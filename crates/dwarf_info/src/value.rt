@@ -2,10 +2,11 @@
 
 ghost use Rattle.std.specs.Prelude.{◌≡◌, ◌+◌, ◌<◌, ◌^◌, OnOk, IfOk};
 ghost use Rattle.wasm_bytes.specs.Place.{Stays};
-ghost use Rattle.wasm_bytes.specs.Reading.{◌▷◌, run_item};
+ghost use Rattle.wasm_bytes.specs.Reading.{◌▷◌, mapped, run_item};
 ghost use Rattle.wasm_bytes.specs.calls.Answers.{Reads};
 ghost use Rattle.dwarf_bytes.specs.Items.{meaning_item};
-ghost use Rattle.dwarf_info.specs.Values.{refers_to, meant, width_item, plain_item, named_item, value_item};
+ghost use Rattle.dwarf_info.specs.declared.entry.AttrValue.TheVariants as value;
+ghost use Rattle.dwarf_info.specs.Values.{refers_to, meant, width_item, plain_item, named_item};
 ghost use Rattle.dwarf_info.specs.inner.Contexts.{seen};
 ghost use Rattle.dwarf_info.specs.inner.Reading.{slot_value};
 ghost use Rattle.dwarf_info.specs.calls.Sizes.{IsWidth, IsNumber, IsSized, Fits};
@@ -99,14 +100,16 @@ fn read_meant<'c, 'a, V: UnitVersion<'a>>(
     meant::<V>(context, meaning, number).ok_or(Malformed { at })
 }
 
-fn read_block<'a>(width: NumberForm, reader: &mut Reader<'a>) -> Result<Run<'a>, Malformed>
+/// A number of bytes, and as many bytes.
+fn read_block<'a>(width: NumberForm, reader: &mut Reader<'a>) -> Result<AttrValue<'a>, Malformed>
     requires width { IsWidth width }
-    ensures item { Reads result reader.new ((width_item width ▷ run_item) reader.old) }
+    ensures item { Reads result reader.new
+        (mapped value.Block (width_item width ▷ run_item) reader.old) }
     ensures stays { OnOk result (Stays reader.old reader.new) }
 {
     let len = read_width(width, reader)?;
     let bytes = reader.run(len as usize)?;
-    Ok(Run::new(bytes))
+    Ok(AttrValue::Block(Run::new(bytes)))
 }
 
 /// A value in a form that is stated.
@@ -123,10 +126,7 @@ fn read_plain<'c, 'a, V: UnitVersion<'a>>(
 {
     match form {
         Form::Number(width, meaning) => read_meant::<V>(context, width, meaning, reader),
-        Form::Block(width) => match read_block(width, reader) {
-            Ok(bytes) => Ok(AttrValue::Block(bytes)),
-            Err(fault) => Err(fault),
-        },
+        Form::Block(width) => read_block(width, reader),
         Form::Text => match text(reader) {
             Ok(bytes) => Ok(AttrValue::Text(Run::new(bytes))),
             Err(fault) => Err(fault),
@@ -162,22 +162,6 @@ fn read_named<'c, 'a, V: UnitVersion<'a>>(
     }
 }
 
-fn read_value<'c, 'a, V: UnitVersion<'a>>(
-    context: &UnitContext<'c, 'a, V::Index>,
-    form: Form,
-    reader: &mut Reader<'a>,
-) -> Result<AttrValue<'a>, Malformed>
-    requires sized { IsSized form }
-    ensures item { Reads result reader.new
-        (value_item (seen V.version V.looked context.now) form reader.old) }
-    ensures stays { OnOk result (Stays reader.old reader.new) }
-{
-    match form {
-        Form::Indirect => read_named::<V>(context, reader),
-        _ => read_plain::<V>(context, form, reader),
-    }
-}
-
 /// The value of an attribute of an abbreviation.
 pub fn read_slot<'c, 'a, V: UnitVersion<'a>>(
     context: &UnitContext<'c, 'a, V::Index>,
@@ -189,7 +173,10 @@ pub fn read_slot<'c, 'a, V: UnitVersion<'a>>(
     ensures stays { OnOk result (Stays reader.old reader.new) }
 {
     match &slot.form {
-        Some(form) => read_value::<V>(context, form.form(), reader),
+        Some(form) => match form.form() {
+            Form::Indirect => read_named::<V>(context, reader),
+            stated => read_plain::<V>(context, stated, reader),
+        },
         None => Err(Malformed { at: reader.at() }),
     }
 }

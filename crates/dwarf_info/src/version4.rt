@@ -1,8 +1,6 @@
 //! Units of version 4 (DWARF 4 section 7.5.1.1).
 
-ghost use Rattle.std.specs.Prelude.{◌≡◌, ◌≤◌, [], length, option_copied, unwrap_or, IfOk, IfSome, OnOk};
-ghost use Rattle.wasm_bytes.specs.Place.{Moves};
-ghost use Rattle.wasm_bytes.specs.calls.Answers.{Reads};
+ghost use Rattle.std.specs.Prelude.{◌≡◌, ◌≤◌, [], length, option_copied, unwrap_or, IfOk, IfSome};
 ghost use Rattle.dwarf_info.specs.Forms.{forms4, form_of};
 ghost use Rattle.dwarf_info.specs.Version4.{slot_of, header4_item, version4, only4};
 ghost use Rattle.dwarf_info.specs.Sections.{SectionBytes5, greatest_section};
@@ -74,20 +72,6 @@ fn slot(pair: &Pair) -> Slot
     }
 }
 
-/// A pair of a row, or None for the end mark.
-#[tactic(auto, unfolding(dwarf_abbrev::specs::Reading::pair_item))]
-fn read_pair4(reader: &mut Reader<'_>) -> Result<Option<Slot>, Malformed>
-    ensures item { Reads result reader.new (pair4 reader.old) }
-    ensures moves { OnOk result (Moves reader.old reader.new) }
-{
-    let attribute = reader.u64()?;
-    let form = reader.u64()?;
-    if attribute == 0 && form == 0 {
-        return Ok(None);
-    }
-    Ok(Some(slot(&Pair { attribute, form })))
-}
-
 /// Version 4, in which no form is an index.
 #[derive(Drop)]
 pub struct Four {}
@@ -116,8 +100,14 @@ impl<'a> UnitVersion<'a> for Four {
         Ok(offset)
     }
 
+    #[tactic(auto, unfolding(dwarf_abbrev::specs::Reading::pair_item))]
     fn read_pair(reader: &mut Reader<'a>) -> Result<Option<Slot>, Malformed> {
-        read_pair4(reader)
+        let attribute = reader.u64()?;
+        let form = reader.u64()?;
+        if attribute == 0 && form == 0 {
+            return Ok(None);
+        }
+        Ok(Some(slot(&Pair { attribute, form })))
     }
 
     #[tactic(auto, using(crate::proofs::FourLaws::rows_are))]

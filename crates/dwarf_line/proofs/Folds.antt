@@ -12,14 +12,13 @@ use Rattle.dwarf_bytes.specs.Format.{read}
 use Rattle.dwarf_line.specs.declared.opcodes.Opcode.{Opcode}
 use Rattle.dwarf_line.specs.declared.matrix.Matrix.{Matrix}
 use Rattle.dwarf_line.specs.declared.matrix.Running.{Running}
-use Rattle.dwarf_line.specs.declared.lines.Sequence.{Sequence}
 use Rattle.dwarf_line.specs.declared.lines.Lines.{Lines}
 use Rattle.dwarf_line.specs.declared.header.Header.{Header}
 use Rattle.dwarf_line.specs.Parameters.{Parameters}
 use Rattle.dwarf_line.specs.Opcodes.{opcode}
 use Rattle.dwarf_line.specs.Rows.{step, first_matrix}
 use Rattle.dwarf_line.specs.Program.{lines_of, said, opcodes_item}
-use Rattle.dwarf_line.specs.inner.Running.{running, running_step}
+use Rattle.dwarf_line.specs.inner.Running.{running, running_step, lines_by}
 
 abbrev folded : {S A : Type 0} → (S → A → S) → S → List A × Place → Read S
 folded g s xs = got (fold g s xs.0) xs.1
@@ -102,8 +101,9 @@ opcodes_are h p =
 run_ok : (h : Header) (p q : Place) (m : Matrix) (r : Running) → m ≡ first_matrix h.tables.files → steps_to_end running_step (running h.parameters m) p ≡ got r q → opcodes_item h p ≡ got (lines_of h r.matrix) q
 run_ok h p q m r new steps = opcodes_are h p ∙ ap (λ (x : Read Running). x >>= said_by h) (ap (λ (n : Matrix). steps_to_end running_step (running h.parameters n) p) (sym new) ∙ steps)
 
-pub made_ok : (h : Header) (p q : Place) (m : Matrix) (r : Running) (sequences : List Sequence) → m ≡ first_matrix h.tables.files → steps_to_end running_step (running h.parameters m) p ≡ got r q → sequences ≡ r.matrix.sequences → opcodes_item h p ≡ got (record (lines_of h r.matrix) { sequences = sequences }) q
-made_ok h p q m r sequences new steps same = run_ok h p q m r new steps ∙ ap (λ (s : List Sequence). got (record (lines_of h r.matrix) { sequences = s }) q) (sym same)
+pub made_ok : (h : Header) (p q : Place) (m : Matrix) (r : Running) (lines : Lines) → m ≡ first_matrix h.tables.files → steps_to_end running_step (running h.parameters m) p ≡ got r q
+    → lines ≡ lines_by h.first h.tables.directories r.matrix → opcodes_item h p ≡ got lines q
+made_ok h p q m r lines new steps same = run_ok h p q m r new steps ∙ ap (λ (l : Lines). got l q) (sym same)
 
 pub run_fails : (h : Header) (p : Place) (m : Matrix) (e : ItemFault) → m ≡ first_matrix h.tables.files → Fails e (steps_to_end running_step (running h.parameters m) p) → Fails e (opcodes_item h p)
 run_fails h p m faults.NoMemory new steps = tt

@@ -82,10 +82,12 @@ pub fn old_header<'a>(
     }
     let mut inner = open_counted(reader)?;
     let parameters = read_parameters(version >= 4, &mut inner)?;
-    let tables = read_tables(alloc, &mut inner)?;
-    Ok(Header {
-        first: 1,
-        parameters,
-        tables,
-    })
+    match read_tables(alloc, &mut inner) {
+        Ok(tables) => Ok(Header {
+            first: 1,
+            parameters,
+            tables,
+        }),
+        Err(fault) => Err(fault),
+    }
 }

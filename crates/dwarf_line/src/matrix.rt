@@ -98,9 +98,9 @@ impl<'a> Matrix<'a> {
                 self.registers
                     .advance_address(parameters.address_advance(n));
                 self.registers.advance_line(parameters.line_advance(n));
-                self.append()?;
+                return self.append();
             }
-            Opcode::Copy => self.append()?,
+            Opcode::Copy => return self.append(),
             Opcode::AdvancePc(n) => self.registers.advance_address(parameters.length_of(n)),
             Opcode::AdvanceLine(by) => self.registers.advance_line(by),
             Opcode::SetFile(n) => self.registers.file = (n % 0x1_0000_0000) as u32,
@@ -111,9 +111,9 @@ impl<'a> Matrix<'a> {
                     .advance_address(parameters.address_advance(special));
             }
             Opcode::FixedAdvancePc(n) => self.registers.advance_address(u32::from(n)),
-            Opcode::EndSequence => self.end(alloc)?,
+            Opcode::EndSequence => return self.end(alloc),
             Opcode::SetAddress(address) => self.registers.address = address,
-            Opcode::DefineFile(file) => self.files.push(file)?,
+            Opcode::DefineFile(file) => return self.files.push(file),
             Opcode::Passed => {}
         }
         Ok(())
@@ -131,8 +131,12 @@ impl<'a> Gather<Reader<'a>> for Running<'a> {
     ghost step = { running_step };
 
     fn take(&mut self, alloc: Global, reader: &mut Reader<'a>) -> Result<(), ItemFault> {
-        let opcode = read_opcode(&self.parameters, reader)?;
-        self.matrix.apply(alloc, &self.parameters, opcode)?;
-        Ok(())
+        match read_opcode(&self.parameters, reader) {
+            Ok(opcode) => match self.matrix.apply(alloc, &self.parameters, opcode) {
+                Ok(()) => Ok(()),
+                Err(NoMemory) => Err(ItemFault::NoMemory),
+            },
+            Err(fault) => Err(ItemFault::At(fault.at)),
+        }
     }
 }

@@ -1,11 +1,12 @@
 //! What the header of a line program says to its opcodes.
 
-ghost use Rattle.std.specs.Prelude.{◌≡◌, ◌≢◌, true, ◌+◌, ◌-◌, ◌*◌, ℤ, pos, ◌+ℤ◌, ◌∷◌, [], slice_index_or, if◌then◌else◌};
+ghost use Rattle.std.specs.Prelude.{◌≡◌, ◌≢◌, true, ◌+◌, ◌-◌, ◌*◌, ℤ, pos, ◌+ℤ◌, ◌∷◌, [], slice_index_or};
+ghost use Rattle.std.specs.Prelude.{if◌then◌else◌};
 ghost use Rattle.std.specs.Prelude.{OnOk};
 ghost use Rattle.wasm_bytes.specs.Place.{Moves};
 ghost use Rattle.wasm_bytes.specs.calls.Answers.{Reads};
 ghost use Rattle.dwarf_bytes.specs.Format.{read};
-ghost use Rattle.dwarf_line.specs.Parameters.{parameters};
+ghost use Rattle.dwarf_line.specs.Parameters.{parameters, ranges};
 ghost use Rattle.dwarf_line.specs.Rows.{low, address_advance, line_advance};
 
 use dwarf_bytes::byte;
@@ -107,6 +108,31 @@ impl<'a> Parameters<'a> {
     }
 }
 
+/// From the base of lines up to the lengths of the opcodes (DWARF 4 section 6.2.4, items 7 to 10).
+#[tactic(auto, unfolding(dwarf_bytes::specs::Format::read))]
+fn read_ranges<'a>(
+    minimum_instruction_length: u8,
+    reader: &mut Reader<'a>,
+) -> Result<Parameters<'a>, Malformed>
+    ensures item { Reads result reader.new (read (ranges minimum_instruction_length) reader.old) }
+    ensures moves { OnOk result (Moves reader.old reader.new) }
+{
+    let line_base = byte(reader)?.cast_signed();
+    let line_range = byte(reader)?;
+    let opcode_base = byte(reader)?;
+    if line_range == 0 || opcode_base == 0 {
+        return Err(Malformed { at: reader.at() });
+    }
+    let opcode_lengths = Run::new(reader.run(usize::from(opcode_base - 1))?);
+    Ok(Parameters {
+        minimum_instruction_length,
+        line_base,
+        line_range,
+        opcode_base,
+        opcode_lengths,
+    })
+}
+
 /// From the minimum length of an instruction up to the lengths of the opcodes (DWARF 4 section
 /// 6.2.4, items 4 to 10), with or without the number of operations of an instruction, which is 1.
 #[tactic(auto, unfolding(dwarf_bytes::specs::Format::read))]
@@ -123,18 +149,5 @@ pub fn read_parameters<'a>(
         return Err(Malformed { at: reader.at() });
     }
     let _default_is_stmt = byte(reader)?;
-    let line_base = byte(reader)?.cast_signed();
-    let line_range = byte(reader)?;
-    let opcode_base = byte(reader)?;
-    if line_range == 0 || opcode_base == 0 {
-        return Err(Malformed { at: reader.at() });
-    }
-    let opcode_lengths = Run::new(reader.run(usize::from(opcode_base - 1))?);
-    Ok(Parameters {
-        minimum_instruction_length,
-        line_base,
-        line_range,
-        opcode_base,
-        opcode_lengths,
-    })
+    read_ranges(minimum_instruction_length, reader)
 }

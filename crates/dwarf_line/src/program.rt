@@ -1,20 +1,42 @@
 //! Reading line programs (DWARF 4 section 6.2.4).
 
-ghost use Rattle.std.specs.Prelude.{◌≡◌, ◌≤◌, length};
+ghost use Rattle.std.specs.Prelude.{◌≡◌, ◌≤◌, length, IfOk};
 ghost use Rattle.wasm_bytes.specs.calls.Answers.{Gives};
 ghost use Rattle.dwarf_bytes.specs.calls.Answers.{ReadsThere};
 ghost use Rattle.dwarf_line.specs.Header.{layout};
 ghost use Rattle.dwarf_line.specs.calls.Grammar.{lines};
 ghost use Rattle.dwarf_line.specs.calls.Standing.{IsWhatStands};
+ghost use Rattle.dwarf_line.specs.inner.Running.{lines_by};
 ghost use Rattle.dwarf_line.specs.Program.{opcodes_item, program_item, lines_item, lines_at};
 
 use crate::header::{Header, Versions, old_header};
-use crate::lines::Lines;
+use crate::lines::{Directories, Lines};
 use crate::matrix::{Matrix, Running};
 use crate::sequences::Sequences;
+use causes::NoMemory;
 use dwarf_bytes::{ReadFault, number, open_unit};
 use std::alloc::Global;
 use wasm_bytes::{ItemFault, Reader, gather_to_end};
+
+/// What a header and the matrix of the opcodes behind it say.
+fn lines_of<'a>(
+    alloc: Global,
+    first: u32,
+    directories: Directories<'a>,
+    matrix: Matrix<'a>,
+) -> Result<Lines<'a>, NoMemory>
+    ensures { IfOk result (λ lines. lines ≡ lines_by first directories.entry matrix.entry) }
+{
+    match Sequences::new(alloc, matrix.sequences) {
+        Ok(sequences) => Ok(Lines {
+            first,
+            directories,
+            files: matrix.files,
+            sequences,
+        }),
+        Err(NoMemory) => Err(NoMemory),
+    }
+}
 
 /// The opcodes up to the end of the block.
 fn run<'a>(
@@ -29,15 +51,13 @@ fn run<'a>(
         parameters: header.parameters,
         matrix: Matrix::new(alloc, tables.files),
     };
-    gather_to_end(alloc, &mut running, reader)?;
-    let matrix = running.matrix;
-    let sequences = Sequences::new(alloc, matrix.sequences)?;
-    Ok(Lines {
-        first: header.first,
-        directories: tables.directories,
-        files: matrix.files,
-        sequences,
-    })
+    match gather_to_end(alloc, &mut running, reader) {
+        Ok(()) => match lines_of(alloc, header.first, tables.directories, running.matrix) {
+            Ok(lines) => Ok(lines),
+            Err(NoMemory) => Err(ItemFault::NoMemory),
+        },
+        Err(fault) => Err(fault),
+    }
 }
 
 /// A version, its header, and the opcodes up to the end of the block.
@@ -50,8 +70,10 @@ fn versioned<'a, V: Versions<'a>>(
     ensures item { Gives result reader.new (program_item (V.layouts versions.now) reader.old) }
 {
     let version = number(reader, 2)? as u16;
-    let header = versions.header(alloc, version, reader)?;
-    run(alloc, header, reader)
+    match versions.header(alloc, version, reader) {
+        Ok(header) => run(alloc, header, reader),
+        Err(fault) => Err(fault),
+    }
 }
 
 /// The program of a unit.
@@ -64,9 +86,13 @@ fn unit<'a, V: Versions<'a>>(
     ensures item { Gives result reader.new (lines_item (V.layouts versions.now) reader.old) }
 {
     let mut inner = open_unit(reader)?;
-    let lines = versioned(alloc, versions, &mut inner)?;
-    inner.end()?;
-    Ok(lines)
+    match versioned(alloc, versions, &mut inner) {
+        Ok(lines) => match inner.end() {
+            Ok(()) => Ok(lines),
+            Err(fault) => Err(ItemFault::At(fault.at)),
+        },
+        Err(fault) => Err(fault),
+    }
 }
 
 /// What the line program at an offset of `.debug_line` says, by the headers of these versions.

@@ -157,12 +157,14 @@ impl Rows {
                 order: Vec::new(alloc),
             });
         }
-        let order = order_of(alloc, rows.as_slice())?;
-        Ok(Rows {
-            rows,
-            ascend,
-            order,
-        })
+        match order_of(alloc, rows.as_slice()) {
+            Ok(order) => Ok(Rows {
+                rows,
+                ascend,
+                order,
+            }),
+            Err(NoMemory) => Err(NoMemory),
+        }
     }
 
     pub fn as_slice(&self) -> &[Row]

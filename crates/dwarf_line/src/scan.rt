@@ -161,23 +161,6 @@ fn marks_from<'a>(
     Ok(marks)
 }
 
-fn learn(
-    alloc: Global,
-    parameters: &Parameters<'_>,
-    block: &[u8],
-    at: usize,
-    known: &mut BTreeMap<usize, Option<Outline>>,
-) -> Result<(), NoMemory>
-    requires { AreKnown parameters.now block.now (get nat_cmp known.old) }
-    ensures { AreKnown parameters.now block.now (get nat_cmp known.new) }
-{
-    if at > block.len() {
-        return Ok(());
-    }
-    let _rest = rest_at(alloc, parameters, block, at, known)?;
-    Ok(())
-}
-
 /// Makes known what opcodes make from marks on, the last first: then few are left to be read in
 /// front of each, and no more than these are in memory.
 fn learn_all(
@@ -191,7 +174,9 @@ fn learn_all(
     ensures { AreKnown parameters.now block.now (get nat_cmp known.new) }
 {
     'marks: while let Some(mark) = marks.pop() {
-        learn(alloc, parameters, block, mark, known)?;
+        if mark <= block.len() {
+            let _rest = rest_at(alloc, parameters, block, mark, known)?;
+        }
     }
     Ok(())
 }
@@ -263,9 +248,20 @@ fn enter<'a, V: Versions<'a>>(
 {
     let mut inner = open_unit(reader)?;
     let version = number(&mut inner, 2)? as u16;
-    let header = versions.header(alloc, version, &mut inner)?;
-    *reader = inner;
-    Ok(header)
+    match versions.header(alloc, version, &mut inner) {
+        Ok(header) => {
+            *reader = inner;
+            Ok(header)
+        }
+        Err(fault) => Err(fault),
+    }
+}
+
+/// What the opcodes need of a header.
+fn parameters_of<'a>(header: Header<'a>) -> Parameters<'a>
+    ensures { result ≡ header.entry.parameters }
+{
+    header.parameters
 }
 
 /// The bounds of the program at an offset of a section, where it can be read.
@@ -287,9 +283,8 @@ fn scan<'a, V: Versions<'a>>(
     let mut reader = Reader::starting_at(section, at);
     match enter(alloc, versions, &mut reader) {
         Ok(header) => {
-            let parameters = header.parameters;
-            let bounds = bounds_behind(alloc, parameters, section, &reader, shared)?;
-            Ok(bounds)
+            let parameters = parameters_of(header);
+            bounds_behind(alloc, parameters, section, &reader, shared)
         }
         Err(ItemFault::At(_)) => Ok(None),
         Err(ItemFault::NoMemory) => Err(NoMemory),
@@ -325,7 +320,6 @@ impl<'a> Scans<'a> {
             ≡ hull_if (lines_at (V.layouts versions.now) self.old at)) }
         ensures same { self.new ≡ self.old }
     {
-        let bounds = scan(alloc, versions, self.section, at, &mut self.shared)?;
-        Ok(bounds)
+        scan(alloc, versions, self.section, at, &mut self.shared)
     }
 }

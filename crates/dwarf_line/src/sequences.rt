@@ -1,7 +1,7 @@
 //! The sequences of a line program.
 
-ghost use Rattle.std.specs.Prelude.{◌≡◌, ◌++◌, true, length, IfOk, OnOk, find, slice_get};
-ghost use Rattle.std.specs.Option.{option_copied, option_to_list};
+ghost use Rattle.std.specs.Prelude.{◌≡◌, true, length, IfOk, find, slice_get};
+ghost use Rattle.std.specs.Option.{option_copied};
 ghost use Rattle.dwarf_line.specs.declared.sequences.Start.{Start};
 ghost use Rattle.dwarf_line.specs.Holding.{holds};
 ghost use Rattle.dwarf_line.specs.inner.Halving.{last_reached, ascends_from};
@@ -83,23 +83,15 @@ fn start_of(index: usize, s: &Sequence) -> Option<Start>
     })
 }
 
-fn add_start(starts: &mut Vec<Start>, index: usize, s: &Sequence) -> Result<(), NoMemory>
-    ensures { OnOk result (starts.new.items
-        ≡ starts.old.items ++ option_to_list (start_of index s.now)) }
-{
-    if let Some(start) = start_of(index, s) {
-        starts.push(start)?;
-    }
-    Ok(())
-}
-
 /// Where the sequences begin and end that hold addresses.
 fn starts_of(alloc: Global, sequences: &[Sequence]) -> Result<Vec<Start>, NoMemory>
     ensures { IfOk result (λ starts. starts.items ≡ starts_from 0 sequences.now) }
 {
     let mut starts = Vec::new(alloc);
     'sequences: for (index, s) in sequences.iter().enumerate() {
-        add_start(&mut starts, index, s)?;
+        if let Some(start) = start_of(index, s) {
+            starts.push(start)?;
+        }
     }
     Ok(starts)
 }

@@ -119,13 +119,17 @@ impl ArrayRows {
         ensures counts { IfOk result (λ a. a.counts ≡ counts standing.now) }
         ensures element { IfOk result (λ a. a.element ≡ element) }
     {
-        let counts = counts_of(alloc, standing)?;
-        let sizes = sizes_of(alloc, &counts, element)?;
-        Ok(ArrayRows {
-            counts,
-            element,
-            sizes,
-        })
+        match counts_of(alloc, standing) {
+            Ok(counts) => match sizes_of(alloc, &counts, element) {
+                Ok(sizes) => Ok(ArrayRows {
+                    counts,
+                    element,
+                    sizes,
+                }),
+                Err(NoMemory) => Err(NoMemory),
+            },
+            Err(NoMemory) => Err(NoMemory),
+        }
     }
 
     /// The size of the innermost elements in bytes.

@@ -105,9 +105,13 @@ fn add_array(
         ElementSize::Waiting => Ok(true),
         ElementSize::Unknown => Ok(false),
         ElementSize::Known(size) => {
-            let rows = ArrayRows::of(alloc, &standing, size)?;
-            keep(&mut arrays.known, at, rows)?;
-            Ok(false)
+            match ArrayRows::of(alloc, &standing, size) {
+                Ok(rows) => match keep(&mut arrays.known, at, rows) {
+                    Ok(()) => Ok(false),
+                    Err(NoMemory) => Err(NoMemory),
+                },
+                Err(NoMemory) => Err(NoMemory),
+            }
         }
     }
 }
@@ -133,21 +137,6 @@ fn add_entries(
     Ok(waits)
 }
 
-fn add_unit(
-    alloc: Global,
-    units: &Units<'_>,
-    answer: &UnitAnswer<'_>,
-    arrays: &mut Arrays,
-) -> Result<bool, NoMemory>
-    requires { AreKnown units.now arrays.old }
-    ensures { OnOk result (AreKnown units.now arrays.new) }
-{
-    match answer {
-        UnitAnswer::Tree(unit) => add_entries(alloc, units, unit.entries.as_slice(), arrays),
-        UnitAnswer::Unreadable { section: _, at: _ } => Ok(false),
-    }
-}
-
 /// Adds what is known of arrays whose elements' sizes are told by now. Whether some wait.
 fn add_told(alloc: Global, units: &Units<'_>, arrays: &mut Arrays) -> Result<bool, NoMemory>
     requires { AreKnown units.now arrays.old }
@@ -155,7 +144,9 @@ fn add_told(alloc: Global, units: &Units<'_>, arrays: &mut Arrays) -> Result<boo
 {
     let mut waits = false;
     for answer in units.as_slice() {
-        waits = add_unit(alloc, units, answer, arrays)? || waits;
+        if let UnitAnswer::Tree(unit) = answer {
+            waits = add_entries(alloc, units, unit.entries.as_slice(), arrays)? || waits;
+        }
     }
     Ok(waits)
 }

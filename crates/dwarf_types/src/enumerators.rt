@@ -1,6 +1,7 @@
 //! The enumerators of an enumeration by their numbers (DWARF 4 section 5.7).
 
-ghost use Rattle.std.specs.Prelude.{◌≡◌, ◌≤◌, ◌<◌, ◌*◌, ◌^◌, ℕ, pos, length, slice_get, Some, IfOk, OnOk, filter, find, option_and_then};
+ghost use Rattle.std.specs.Prelude.{◌≡◌, ◌≤◌, ◌<◌, ◌*◌, ◌^◌, ℕ, pos, length, slice_get, IfOk, OnOk, filter};
+ghost use Rattle.std.specs.Prelude.{find, option_and_then};
 ghost use Rattle.std.specs.Option.{option_or};
 ghost use Rattle.std.specs.Ordering.{nat_cmp};
 ghost use Rattle.std.specs.BTreeMap.{get};
@@ -61,19 +62,7 @@ fn key_in(entry: &Entry<'_>, depth: u32, size: u64) -> Option<u64>
     }
 }
 
-/// Adds an enumerator of a number, at a position behind all others.
-fn add_first(first: &mut BTreeMap<u64, u32>, key: u64, position: u32) -> Result<(), NoMemory>
-    ensures { OnOk result ((n : ℕ) → get nat_cmp first.new n
-        ≡ option_or (get nat_cmp first.old n) (own_at position (Some key) n)) }
-{
-    if first.contains_key(&key) {
-        return Ok(());
-    }
-    first.insert(key, position)?;
-    Ok(())
-}
-
-/// Adds the entry at a position behind all others, if it is an enumerator.
+/// Adds the entry at a position behind all others, if it is the first enumerator of its number.
 fn add_entry(
     first: &mut BTreeMap<u64, u32>,
     entry: &Entry<'_>,
@@ -85,9 +74,15 @@ fn add_entry(
     ensures { OnOk result ((n : ℕ) → get nat_cmp first.new n
         ≡ option_or (get nat_cmp first.old n) (own_at position (key_in depth size entry.now) n)) }
 {
-    match key_in(entry, depth, size) {
-        Some(key) => add_first(first, key, position),
-        None => Ok(()),
+    let Some(key) = key_in(entry, depth, size) else {
+        return Ok(());
+    };
+    if first.contains_key(&key) {
+        return Ok(());
+    }
+    match first.insert(key, position) {
+        Ok(_) => Ok(()),
+        Err(_) => Err(NoMemory),
     }
 }
 
@@ -127,8 +122,10 @@ impl Enumerators {
         requires few { length (entries_inside standing.now) < 2 ^ 32 }
         ensures { IfOk result (AreFirstIn standing.now) }
     {
-        let first = first_among(alloc, standing.inside(), standing.entry().depth, size)?;
-        Ok(Enumerators { size, range, first })
+        match first_among(alloc, standing.inside(), standing.entry().depth, size) {
+            Ok(first) => Ok(Enumerators { size, range, first }),
+            Err(NoMemory) => Err(NoMemory),
+        }
     }
 
     /// The size of the type in bytes.

@@ -12,6 +12,8 @@ pub(crate) fn keep<T: Drop>(known: &mut BTreeMap<u32, T>, at: u32, value: T) -> 
     ensures { OnOk result ((q : ℕ) → get nat_cmp known.new q
         ≡ (if is_eq (nat_cmp at q) then Some value else get nat_cmp known.old q)) }
 {
-    known.insert(at, value)?;
-    Ok(())
+    match known.insert(at, value) {
+        Ok(_) => Ok(()),
+        Err(_) => Err(NoMemory),
+    }
 }

@@ -1,7 +1,8 @@
 //! What stands in the structures and enumerations of units, by the offsets of their entries (DWARF 4
 //! sections 5.5.6, 5.5.9 and 5.7).
 
-ghost use Rattle.std.specs.Prelude.{◌≡◌, ◌≤◌, ◌<◌, ◌^◌, ◌++◌, ◌∷◌, [], List, length, filter, Some, IfOk, OnOk, IfSome, option_copied, if◌then◌else◌};
+ghost use Rattle.std.specs.Prelude.{◌≡◌, ◌≤◌, ◌<◌, ◌^◌, ◌++◌, ◌∷◌, [], List, length, filter, Some, IfOk};
+ghost use Rattle.std.specs.Prelude.{OnOk, IfSome, option_copied, if◌then◌else◌};
 ghost use Rattle.dwarf_info.specs.declared.entry.Unit.{Unit as UnitTree};
 ghost use Rattle.dwarf_info.specs.declared.entry.UnitAnswer.{UnitAnswer};
 ghost use Rattle.dwarf_entries.specs.Standing.{standing_in, standing_at, entries_inside};
@@ -99,8 +100,10 @@ fn members_of<'r, 'a>(
     requires few { length (entries_inside standing.now) < 2 ^ 32 }
     ensures { IfOk result (AreContentsIn standing.now) }
 {
-    let positions = contents_among(alloc, standing.inside(), standing.entry().depth)?;
-    Ok(MemberPositions { range, positions })
+    match contents_among(alloc, standing.inside(), standing.entry().depth) {
+        Ok(positions) => Ok(MemberPositions { range, positions }),
+        Err(NoMemory) => Err(NoMemory),
+    }
 }
 
 /// Adds what stands in the structure at an offset, where that is little of what stands there: all
@@ -120,11 +123,15 @@ fn add_structure<'r, 'a>(
     let Some(range) = range_inside(units, at, &standing) else {
         return Ok(());
     };
-    let members = members_of(alloc, &standing, range)?;
-    if members.positions.len() >= (range.count / 8) as usize {
-        return Ok(());
+    match members_of(alloc, &standing, range) {
+        Ok(members) => {
+            if members.positions.len() >= (range.count / 8) as usize {
+                return Ok(());
+            }
+            keep(&mut structures.members, at, members)
+        }
+        Err(NoMemory) => Err(NoMemory),
     }
-    keep(&mut structures.members, at, members)
 }
 
 /// The size that a type says, or else the first of the types that it stands on, of at most so many.
@@ -170,8 +177,10 @@ fn add_enumeration<'r, 'a>(
     if range.count <= FEW_ENTRIES {
         return Ok(());
     }
-    let enumerators = Enumerators::of(alloc, &standing, range, size)?;
-    keep(&mut structures.numbers, at, enumerators)
+    match Enumerators::of(alloc, &standing, range, size) {
+        Ok(enumerators) => keep(&mut structures.numbers, at, enumerators),
+        Err(NoMemory) => Err(NoMemory),
+    }
 }
 
 /// Adds what stands in an entry behind which these stand, if it is that of a structure or of an
@@ -217,21 +226,6 @@ fn add_entries<'r, 'a>(
     Ok(())
 }
 
-fn add_unit<'r, 'a>(
-    alloc: Global,
-    units: &'r Units<'a>,
-    answer: &UnitAnswer<'_>,
-    structures: &mut Structures,
-) -> Result<(), NoMemory>
-    requires { AreContents units.now structures.old }
-    ensures { OnOk result (AreContents units.now structures.new) }
-{
-    match answer {
-        UnitAnswer::Tree(unit) => add_entries(alloc, units, unit.entries.as_slice(), structures),
-        UnitAnswer::Unreadable { section: _, at: _ } => Ok(()),
-    }
-}
-
 impl MemberPositions {
     /// Which entries of its unit stand in the structure.
     pub fn range(&self) -> EntryRange
@@ -258,7 +252,9 @@ impl Structures {
             numbers: BTreeMap::new(alloc),
         };
         for answer in units.as_slice() {
-            add_unit(alloc, units, answer, &mut structures)?;
+            if let UnitAnswer::Tree(unit) = answer {
+                add_entries(alloc, units, unit.entries.as_slice(), &mut structures)?;
+            }
         }
         Ok(structures)
     }

@@ -105,8 +105,9 @@ impl<'r, 'k, 'a> TypedUnits<'r, 'k, 'a> {
     {
         let at = standing.entry().at;
         let rows = self.arrays.get(at);
-        let contents = contents_at(self.structures, at);
-        let enumerators = enumerators_at(self.structures, at);
+        let structures = self.structures;
+        let contents = contents_at(structures, at);
+        let enumerators = enumerators_at(structures, at);
         TypeStanding::new(standing, rows, contents, enumerators)
     }
 }

@@ -9,11 +9,11 @@ use Rattle.dwarf_abbrev.proofs.read.read_abbrevs.Goals as goal
 pub returns-then-at-section-clause-exact : goal.returns-then-at-section-clause-exact
 returns-then-at-section-clause-exact c = rw (abbrevs_past c.args.section.now c.args.at c.if-at-section.true) refl
 
-pub returns-in_ok-new-in-Ok-clause-spelled : goal.returns-in_ok-new-in-Ok-clause-spelled
-returns-in_ok-new-in-Ok-clause-spelled c =
-    let read : read_at abbrevs_item c.args.section.now c.args.at ≡ Some c.in_ok-new-in-Ok.field-0 =
-    ap reading_of (ap abbrevs_item (sym c.starting_at.ensures) ∙ c.in-Ok.ensures.item) ∙ ap Some (sym c.in_ok-new-in-Ok.ensures) in
-    read_stands abbrevs abbrevs_item abbrevs_exact c.args.section.now c.args.at c.in_ok-new-in-Ok.field-0 (λ i. omega (arith, c.type_inv.section i)) c.if-at-section.false read
+pub returns-in-Ok-new-clause-spelled : goal.returns-in-Ok-new-clause-spelled
+returns-in-Ok-new-clause-spelled c =
+    let read : read_at abbrevs_item c.args.section.now c.args.at ≡ Some c.in-Ok-new.table =
+    ap reading_of (ap abbrevs_item (sym c.starting_at.ensures) ∙ c.in-Ok.ensures.item) ∙ ap Some (sym c.in-Ok-new.ensures) in
+    read_stands abbrevs abbrevs_item abbrevs_exact c.args.section.now c.args.at c.in-Ok-new.table (λ i. omega (arith, c.type_inv.section i)) c.if-at-section.false read
 
 pub returns-then-at-section-clause-unreadable : goal.returns-then-at-section-clause-unreadable
 returns-then-at-section-clause-unreadable c = λ is. none_stands c.args.section.now c.args.at (abbrevs_past c.args.section.now c.args.at c.if-at-section.true)

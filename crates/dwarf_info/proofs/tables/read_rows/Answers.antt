@@ -9,7 +9,7 @@ use Rattle.dwarf_info.specs.declared.tables.PlacedRow.{PlacedRow}
 use Rattle.dwarf_info.specs.calls.Keeping.{FirstRow, rows_of}
 use Rattle.dwarf_info.specs.calls.Pairs.{Knows}
 use Rattle.dwarf_info.specs.inner.Rows.{IsRow, Leads}
-use Rattle.dwarf_info.proofs.RowLaws.{place_is, is_row, first_table, leads_on}
+use Rattle.dwarf_info.proofs.RowLaws.{first_row, place_is, is_row, first_table, leads_on}
 use Rattle.dwarf_info.proofs.tables.read_rows.Goals as goal
 
 pub rows-init : goal.rows-init
@@ -33,7 +33,7 @@ rows-preserved g c =
     let block = c.rows.invariant.block in
     let behind_block : q.block ≡ section = c.in-Ok-Some.ensures.moves.1 ∙ block in
     let inside : p.at ≤ length section = omega (arith, c.at-at.ensures.inside, ap length block) in
-    let item = subst (λ (o : Option Shape). FirstRow rows p (Ok o) q) c.in-Ok-Some.field-0-is c.in-Ok-Some.ensures.item in
+    let item = subst (λ (o : Option Shape). FirstRow rows p (Ok o) q) c.in-Ok-Some.field-0-is (first_row g.V.UnitVersion.pair p q (Ok c.in-Ok-Some.field-0) c.in-Ok-Some.ensures.item) in
     let row : IsRow rows section p.at shape q.at = is_row rows section p.at q.at shape p q (place_is p section block) (place_is q section behind_block) inside c.in-Ok-Some.ensures.moves.0 item in
     record {
       led = subst (λ (rs : List PlacedRow). Leads rows section rs c.args.start q.at) (sym c.in_ok-push-in-Ok-Some.ensures.ok) (leads_on rows section c.rows.rows c.args.start p.at q.at r c.rows.invariant.led c.at-at.ensures.is row);
@@ -47,7 +47,7 @@ returns-in-Ok-None-clause-table g c =
     let p = c.rows.reader in
     let here = place_is p section c.rows.invariant.block ∙ ap (λ (a : ℕ). (let x : Place = record { block = section; at = a } in x)) (sym c.at-at.ensures.is) in
     let inside : c.at-at.result ≤ length section = omega (arith, c.at-at.ensures.inside, c.at-at.ensures.is, ap length c.rows.invariant.block) in
-    first_table rows section c.at-at.result p (Some []) here inside (subst (λ (o : Option Shape). FirstRow rows p (Ok o) c.read_row-row.new.reader) c.in-Ok-None.field-0-is c.in-Ok-None.ensures.item)
+    first_table rows section c.at-at.result p (Some []) here inside (subst (λ (o : Option Shape). FirstRow rows p (Ok o) c.read_row-row.new.reader) c.in-Ok-None.field-0-is (first_row g.V.UnitVersion.pair p c.read_row-row.new.reader (Ok c.in-Ok-None.field-0) c.in-Ok-None.ensures.item))
 
 pub returns-in-Err-At-clause-table : goal.returns-in-Err-At-clause-table
 returns-in-Err-At-clause-table g c =
@@ -58,7 +58,7 @@ returns-in-Err-At-clause-table g c =
     let here = place_is p section c.rows.invariant.block ∙ ap (λ (a : ℕ). (let x : Place = record { block = section; at = a } in x)) (sym c.at-at.ensures.is) in
     let inside : c.at-at.result ≤ length section = omega (arith, c.at-at.ensures.inside, c.at-at.ensures.is, ap length c.rows.invariant.block) in
     let is : c.read_row-row.result ≡ Err (faults.At c.in-Err-At.field-0-0) = c.in-Err-At.is ∙ ap (λ (e : ItemFault). Err e) (rw c.in-Err-At.is at c.in-Err-At.field-0-is) in
-    first_table rows section c.at-at.result p None here inside (subst (λ (r : Result (Option Shape) ItemFault). FirstRow rows p r q) is c.read_row-row.ensures.item)
+    first_table rows section c.at-at.result p None here inside (subst (λ (r : Result (Option Shape) ItemFault). FirstRow rows p r q) is (first_row g.V.UnitVersion.pair p q c.read_row-row.result c.read_row-row.ensures.item))
 
 pub read_row-row-requires : goal.read_row-row-requires
 read_row-row-requires g c κs =

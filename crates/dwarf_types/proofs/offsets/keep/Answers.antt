@@ -1,4 +1,4 @@
 use Rattle.dwarf_types.proofs.offsets.keep.Goals as goal
 
-pub returns : goal.returns
-returns g c = c.in_ok-insert.ensures.updates.0
+pub returns-in-Ok : goal.returns-in-Ok
+returns-in-Ok g c = c.in-Ok.ensures.updates.0

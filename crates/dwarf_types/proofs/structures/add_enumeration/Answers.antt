@@ -7,10 +7,10 @@ use Rattle.dwarf_types.specs.calls.Numbers.{AreFirstOf}
 use Rattle.dwarf_types.proofs.KeptLaws.{one_kept}
 use Rattle.dwarf_types.proofs.structures.add_enumeration.Goals as goal
 
-pub returns : goal.returns
-returns c =
-    let enumerators = c.in_ok-enumerators.enumerators in
-    let is = subst (λ (o : Option Standing). AreFirstOf o enumerators) (sym c.in-Some.is ∙ c.standing_at.ensures) c.in_ok-enumerators.ensures in
+pub returns-in-Ok : goal.returns-in-Ok
+returns-in-Ok c =
+    let enumerators = c.in-Ok.enumerators in
+    let is = subst (λ (o : Option Standing). AreFirstOf o enumerators) (sym c.in-Some.is ∙ c.standing_at.ensures) c.in-Ok.ensures in
     on_ok_weaker c.keep.result
     (λ updates. record {
       members = c.requires.members;
