@@ -5,9 +5,11 @@ use Rattle.std.specs.Prelude.{filter, find, flat_map, reverse, not, ◌&&◌, �
 use Rattle.std.proofs.lemmas.List.{reverse-append}
 use Rattle.std.proofs.lemmas.List.Elements.{filter-append}
 use Rattle.std.proofs.lemmas.List.Folds.{find-append}
+use Rattle.dwarf_info.specs.declared.entry.Entry.{Entry}
+use Rattle.dwarf_info.specs.declared.entry.Unit.{Unit as UnitTree}
 use Rattle.dwarf_info.specs.declared.entry.UnitAnswer.{UnitAnswer}
 use Rattle.dwarf_info.specs.Sections.{SectionBytes5}
-use Rattle.dwarf_entries.specs.Standing.{Standing, standing, of_unit, inside}
+use Rattle.dwarf_entries.specs.Standing.{Standing, standing, standing_in, of_unit, entries_inside, inside}
 use Rattle.dwarf_entries.specs.Tags.{tag_subprogram}
 use Rattle.dwarf_entries.proofs.Found.{found_first, found_later}
 use Rattle.dwarf_scopes.specs.Ranges.{holds}
@@ -61,6 +63,14 @@ second_alone f g (x ∷ xs) = second_step f g x xs (f x) (g x) refl (second_alon
 pub inlined_alone : (s : SectionBytes5) (a : ℕ) (x : Standing)
     → reverse (filter is_inlined (x ∷ filter (is_wanted false s a) (inside x))) ≡ reverse (filter is_inlined (scopes_in s a x))
 inlined_alone s a x = ap (λ (ys : List Standing). reverse (if is_inlined x then (x ∷ ys) else ys)) (second_alone is_inlined (is_scope_at s a) (inside x))
+
+-- an entry and those in it that pass, gathered
+pub all_inside : (f : Standing → Bool) (x : Standing) (u : UnitTree) (es : List Entry) (none one all : List Standing) → none ≡ [] → one ≡ none ++ x ∷ [] → u ≡ x.unit → es ≡ entries_inside x
+    → all ≡ one ++ filter f (standing_in u es) → all ≡ x ∷ filter f (inside x)
+all_inside f x u es none one all en eo eu ees ea =
+    ea ∙ ap (λ (ys : List Standing). ys ++ filter f (standing_in u es)) (eo ∙ ap (λ (ys : List Standing). ys ++ x ∷ []) en)
+    ∙ ap (λ (v : UnitTree). x ∷ filter f (standing_in v es)) eu
+    ∙ ap (λ (fs : List Entry). x ∷ filter f (standing_in x.unit fs)) ees
 
 -- ---- subprograms that were gathered
 

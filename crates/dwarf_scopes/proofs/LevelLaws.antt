@@ -1,6 +1,6 @@
 -- Parts of entries of which none is wanted.
 use Rattle.std.proofs.Common.{◌≡◌, ℕ, pos, negsuc, zero, suc, ◌+◌, ◌-◌, ◌*◌, ◌/◌, ◌%◌, ◌<◌, ◌≤◌, ◌^◌, ℤ, Bool, true, false, leb, ltb, List, [], ◌∷◌, ◌++◌, length, take, drop, get_or, append_assoc, Option, Some, None, refl, sym, ap, subst, ◌∙◌, arith}
-use Rattle.std.specs.Prelude.{filter, not, reverse, slice_get, unwrap_or, option_and_then, int_lt, ◌&&◌, ◌||◌, ◌==◌, if◌then◌else◌}
+use Rattle.std.specs.Prelude.{filter, not, slice_get, unwrap_or, option_and_then, int_lt, ◌&&◌, ◌||◌, ◌==◌, if◌then◌else◌}
 use Rattle.std.specs.Option.{option_to_list}
 use Rattle.std.specs.List.{list_any}
 use Rattle.std.proofs.Math.Nat.{mod-add-div', suc-mul, zero-mul}
@@ -12,20 +12,18 @@ use Rattle.dwarf_info.specs.declared.entry.UnitAnswer.{UnitAnswer}
 use Rattle.dwarf_info.specs.Attributes.{valued, as_offset, ranges}
 use Rattle.dwarf_info.specs.Sections.{SectionBytes5}
 use Rattle.dwarf_entries.specs.Tags.{tag_inlined_subroutine, tag_lexical_block}
-use Rattle.dwarf_entries.specs.Standing.{Standing, stands, standing_in, entries_inside}
-use Rattle.dwarf_scopes.specs.Scopes.{scopes_in}
+use Rattle.dwarf_entries.specs.Standing.{Standing, stands, standing_in}
 use Rattle.dwarf_scopes.specs.Ranges.{bounds_of, is_between, holds_by, in_list}
 use Rattle.dwarf_scopes.specs.declared.levels.Level.{Level}
 use Rattle.dwarf_scopes.specs.declared.levels.UnitLevels.{UnitLevels}
 use Rattle.dwarf_scopes.specs.declared.spans.Span.{Span}
 use Rattle.dwarf_scopes.specs.calls.Spans.{is_in, from_to, covers, only, Joins}
 use Rattle.dwarf_scopes.specs.calls.Levels.{bounds_by, may_bounds, may_hold, last_before, span_between, IsWith, IsPart, AreParts, AreSized, IsLeveled, AreLeveled}
-use Rattle.dwarf_scopes.specs.inner.Picks.{is_wanted, is_inlined}
+use Rattle.dwarf_scopes.specs.inner.Picks.{is_wanted}
 use Rattle.dwarf_scopes.specs.calls.Tabled.{first_standing}
 use Rattle.dwarf_scopes.specs.inner.Insides.{deeper, insides}
 use Rattle.dwarf_scopes.specs.inner.Fronts.{StandFrom}
 use Rattle.dwarf_scopes.proofs.SpanLaws.{parted, neither}
-use Rattle.dwarf_scopes.proofs.Filters.{inlined_alone}
 use Rattle.dwarf_scopes.proofs.Counts.{first_is, counted_at}
 
 -- ---- an entry that may not hold the address is not wanted
@@ -314,14 +312,3 @@ pub stands_there : (u : UnitTree) (es : List Entry) (n : ℕ) (e other : Entry) 
     → x ≡ stands u e behind → Some x ≡ first_standing u (drop n u.entries)
 stands_there u es n e other behind x all lt is rest stood =
     sym (ap (λ (fs : List Entry). first_standing u (drop n fs)) (sym all) ∙ ap (first_standing u) (first_is es n e other lt is) ∙ ap (λ (xs : List Entry). Some (stands u e xs)) (sym rest) ∙ ap Some (sym stood))
-
--- a subprogram and the inlined subroutines in it
-pub by_levels : (s : SectionBytes5) (a : ℕ) (x : Standing) (u : UnitTree) (es : List Entry) (none one all : List Standing) → none ≡ [] → one ≡ none ++ x ∷ [] → u ≡ x.unit → es ≡ entries_inside x
-    → all ≡ one ++ filter (is_wanted false s a) (standing_in u es) → reverse (filter is_inlined all) ≡ reverse (filter is_inlined (scopes_in s a x))
-by_levels s a x u es none one all en eo eu ees ea =
-    let first : one ≡ x ∷ [] = eo ∙ ap (λ (ys : List Standing). ys ++ x ∷ []) en in
-    ap (λ (ys : List Standing). reverse (filter is_inlined ys))
-    (ea ∙ ap (λ (ys : List Standing). ys ++ filter (is_wanted false s a) (standing_in u es)) first
-    ∙ ap (λ (v : UnitTree). x ∷ filter (is_wanted false s a) (standing_in v es)) eu
-    ∙ ap (λ (fs : List Entry). x ∷ filter (is_wanted false s a) (standing_in x.unit fs)) ees)
-    ∙ inlined_alone s a x

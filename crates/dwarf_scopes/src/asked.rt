@@ -53,7 +53,7 @@ fn held_in(chosen: Option<Option<()>>) -> bool
 }
 
 /// Whether the list at an offset holds the address.
-fn in_list(
+pub fn in_list(
     sections: &Sections5<'_>,
     unit: &Unit<'_>,
     address: u32,
@@ -66,29 +66,14 @@ fn in_list(
     ensures right { AreRight sections.now address lists.new }
 {
     let place = place_of(unit, at as usize);
-    let held = held_by_bases::<RangeLists>(sections, address, place, &mut lists.bases)?;
-    if let Some(held) = held {
-        return Ok(held);
+    match held_by_bases::<RangeLists>(sections, address, place, &mut lists.bases) {
+        Ok(None) => {}
+        Ok(Some(held)) => return Ok(held),
+        Err(e) => return Err(e),
     }
-    let chosen = chosen_in::<RangeLists>(sections, unit, address, at, &mut lists.lists)?;
-    Ok(held_in(chosen))
-}
-
-/// Whether the list at an offset, if there is one, holds the address.
-pub fn in_list_if(
-    sections: &Sections5<'_>,
-    unit: &Unit<'_>,
-    address: u32,
-    at: Option<u32>,
-    lists: &mut KnownRanges,
-) -> Result<bool, NoMemory>
-    requires right { AreRight sections.now address lists.old }
-    ensures is { IfOk result (λ held. held ≡ ranges.in_list sections.now unit.now address at) }
-    ensures right { AreRight sections.now address lists.new }
-{
-    match at {
-        Some(at) => in_list(sections, unit, address, at, lists),
-        None => Ok(false),
+    match chosen_in::<RangeLists>(sections, unit, address, at, &mut lists.lists) {
+        Ok(chosen) => Ok(held_in(chosen)),
+        Err(e) => Err(e),
     }
 }
 

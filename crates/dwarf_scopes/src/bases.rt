@@ -4,7 +4,8 @@
 ghost use Rattle.std.specs.Prelude.{◌≡◌, ◌≤◌, ℕ, true, None, Some, [], length, IfOk, IfSome, if◌then◌else◌};
 ghost use Rattle.dwarf_info.specs.Sections.{SectionBytes5};
 ghost use Rattle.dwarf_scopes.specs.calls.Kinds.{range_section, range_item};
-ghost use Rattle.dwarf_scopes.specs.calls.Knowing.{Sectioned, Entered, place_at, held_from, AreBases, AreTabled, is_held, said_in};
+ghost use Rattle.dwarf_scopes.specs.calls.Knowing.{Sectioned, Entered, place_at, held_from, AreBases};
+ghost use Rattle.dwarf_scopes.specs.calls.Knowing.{AreTabled, is_held, said_in};
 ghost use Rattle.dwarf_scopes.specs.inner.Bases as definitions;
 
 use crate::kinds::{ListKind, ListWay};
@@ -200,22 +201,24 @@ fn read_bases<K: ListKind>(
     }
 }
 
-/// The table of a list inside the section, unless it has more entries than so many.
+/// The table of a list inside the section, unless it has more entries than so many. Their bases are
+/// kept meanwhile.
 fn table_within<K: ListKind>(
     alloc: Global,
     sections: &Sections5<'_>,
     address: u32,
     place: ListPlace,
     room: usize,
+    ranges: &mut Items<Range>,
 ) -> Result<Option<BaseTable>, NoMemory>
     requires inside { place.at ≤ length (K.section sections.now place.way) }
+    requires none { ranges.old ≡ [] }
     ensures { IfOk result (λ made. IfSome made
         (AreBases (K.section sections.now) (K.item sections.now) address)) }
 {
     let way = place.way;
     let at = place.at;
-    let mut ranges = Items::new(alloc);
-    let read = read_bases::<K>(sections, address, way, at, room, &mut ranges)?;
+    let read = read_bases::<K>(sections, address, way, at, room, ranges)?;
     let Some(whole) = read else {
         return Ok(None);
     };
@@ -257,7 +260,10 @@ fn table_of<K: ListKind>(
             bases: None,
         }));
     }
-    table_within::<K>(alloc, sections, address, place, room)
+    let mut ranges = Items::new(alloc);
+    let table = table_within::<K>(alloc, sections, address, place, room, &mut ranges);
+    drop(ranges);
+    table
 }
 
 /// A number for each list.
@@ -272,8 +278,10 @@ fn is_asked_again(asked: &mut BTreeMap<u128, u32>, place: ListPlace) -> Result<b
     match first {
         Some(base) => Ok(base != place.base),
         None => {
-            asked.insert(number, place.base)?;
-            Ok(false)
+            match asked.insert(number, place.base) {
+                Ok(_) => Ok(false),
+                Err(_) => Err(NoMemory),
+            }
         }
     }
 }
@@ -293,8 +301,16 @@ fn keep_table<T: Copy + Drop>(
     match made {
         Some(table) => {
             bases.read = bases.read.saturating_add(table.entries);
-            bases.tables.insert(number, table)?;
-            Ok(())
+            match bases.tables.insert(number, table) {
+                Ok(replaced) => {
+                    drop(replaced);
+                    Ok(())
+                }
+                Err(failed) => {
+                    drop(failed);
+                    Err(NoMemory)
+                }
+            }
         }
         None => {
             bases.read = usize::MAX;
@@ -320,8 +336,10 @@ fn make_table<K: ListKind>(
     }
     let most = K::section(sections, place.way).len() / 2;
     let room = most.saturating_sub(bases.read);
-    let made = table_of::<K>(bases.alloc, sections, address, place, room)?;
-    keep_table::<K::What>(bases, number, made)
+    match table_of::<K>(bases.alloc, sections, address, place, room) {
+        Ok(made) => keep_table::<K::What>(bases, number, made),
+        Err(e) => Err(e),
+    }
 }
 
 /// Makes the table of a list where it was asked from another base before.
@@ -362,9 +380,10 @@ fn held_by_table<T: Copy + Drop>(bases: &BaseTables, place: ListPlace) -> Option
         → AreTabled section item address bases.now
         → IfSome result (λ held. held ≡ is_held (said_in section item address place)) }
 {
-    let table = bases.tables.get(&list_number(place))?;
-    if is_of(table, place) {
-        return Some(held_from(&table.bases, place.base));
+    if let Some(table) = bases.tables.get(&list_number(place)) {
+        if is_of(table, place) {
+            return Some(held_from(&table.bases, place.base));
+        }
     }
     None
 }
@@ -382,6 +401,8 @@ pub fn held_by_bases<K: ListKind>(
     ensures is { IfOk result (λ o. IfSome o (λ held. held ≡ is_held
         (said_in (K.section sections.now) (K.item sections.now) address place))) }
 {
-    make_table_again::<K>(sections, address, place, bases)?;
-    Ok(held_by_table::<K::What>(bases, place))
+    match make_table_again::<K>(sections, address, place, bases) {
+        Ok(()) => Ok(held_by_table::<K::What>(bases, place)),
+        Err(e) => Err(e),
+    }
 }

@@ -94,24 +94,22 @@ fn first_or(
     Ok(named)
 }
 
-fn entry_of<'r, 'a>(
-    entries: &PlacedSubprograms<'_, 'r, 'a>,
-    number: Option<usize>,
-) -> Option<Standing<'r, 'a>>
-    ensures { result ≡ option_and_then (slice_get entries.now) number }
-{
-    entries.get(number?)
-}
-
 impl Holders {
     /// Those of these entries, in their order.
     pub fn of(alloc: Global, entries: &[Standing<'_, '_>]) -> Result<Self, NoMemory>
         ensures { IfOk result (λ holders. AreHolders entries.now holders) }
     {
         let ranges = ranges_of(alloc, entries)?;
-        let bounded = Steps::of(alloc, ranges.as_slice())?;
-        let listed = listed_of(alloc, entries)?;
-        Ok(Holders { bounded, listed })
+        let made = Steps::of(alloc, ranges.as_slice());
+        drop(ranges);
+        let bounded = made?;
+        match listed_of(alloc, entries) {
+            Ok(listed) => Ok(Holders { bounded, listed }),
+            Err(e) => {
+                drop(bounded);
+                Err(e)
+            }
+        }
     }
 
     /// The number of the first of the entries that holds an address.
@@ -129,7 +127,9 @@ impl Holders {
         let mut lists = no_ranges(alloc);
         let named = self.bounded.at(address);
         let listed = self.listed.as_slice();
-        first_or(sections, entries, address, named, listed, &mut lists)
+        let first = first_or(sections, entries, address, named, listed, &mut lists);
+        drop(lists);
+        first
     }
 
     /// The first of the entries that holds an address.
@@ -143,7 +143,10 @@ impl Holders {
         requires { AreHolders entries.now self.now }
         ensures { IfOk result (λ x. x ≡ find (ranges.holds sections.now address) entries.now) }
     {
-        let number = self.number(alloc, sections, entries, address)?;
-        Ok(entry_of(entries, number))
+        match self.number(alloc, sections, entries, address) {
+            Ok(Some(number)) => Ok(entries.get(number)),
+            Ok(None) => Ok(None),
+            Err(e) => Err(e),
+        }
     }
 }

@@ -58,10 +58,9 @@ impl ListKind for RangeLists {
 
     fn section<'a>(sections: &Sections5<'a>, way: ListWay) -> &'a [u8] {
         if way.version5 {
-            sections.rnglists
-        } else {
-            sections.base.ranges
+            return sections.rnglists;
         }
+        sections.base.ranges
     }
 
     fn entry(
@@ -70,10 +69,9 @@ impl ListKind for RangeLists {
         reader: &mut Reader<'_>,
     ) -> Result<Option<ListEntry<()>>, Malformed> {
         if way.version5 {
-            rnglist_entry(&AddressTable::new(sections.addr, way.addresses), reader)
-        } else {
-            range_entry(reader)
+            return rnglist_entry(&AddressTable::new(sections.addr, way.addresses), reader);
         }
+        range_entry(reader)
     }
 }
 
@@ -89,10 +87,9 @@ impl ListKind for LocationLists {
 
     fn section<'a>(sections: &Sections5<'a>, way: ListWay) -> &'a [u8] {
         if way.version5 {
-            sections.loclists
-        } else {
-            sections.base.loc
+            return sections.loclists;
         }
+        sections.base.loc
     }
 
     fn entry(
@@ -101,9 +98,8 @@ impl ListKind for LocationLists {
         reader: &mut Reader<'_>,
     ) -> Result<Option<ListEntry<Span>>, Malformed> {
         if way.version5 {
-            loclist_entry(&AddressTable::new(sections.addr, way.addresses), reader)
-        } else {
-            location_entry(reader)
+            return loclist_entry(&AddressTable::new(sections.addr, way.addresses), reader);
         }
+        location_entry(reader)
     }
 }

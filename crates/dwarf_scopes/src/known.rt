@@ -12,7 +12,7 @@ use dwarf_info::{Sections5, Unit};
 use dwarf_loc::{ListEntry, Said, base_behind};
 use dwarf5_info::{address_base, list_base};
 use pm_text::Items;
-use std::alloc::Global;
+use std::alloc::{AllocError, Global};
 use std::collections::BTreeMap;
 use wasm_bytes::Reader;
 
@@ -27,10 +27,16 @@ pub struct ListPlace {
 }
 
 /// What a list says from a place on; none where it can't be read from there up to its end mark.
-#[derive(Clone, Copy)]
+#[derive(Copy)]
 pub struct KnownList<T> {
     pub place: ListPlace,
     pub said: Option<Said<T>>,
+}
+
+impl<T: Copy> Clone for KnownList<T> {
+    fn clone(&self) -> Result<Self, AllocError> {
+        Ok(*self)
+    }
 }
 
 /// What lists say from the places that were passed in them.
@@ -140,8 +146,10 @@ fn keep<T: Copy + Drop>(lists: &mut KnownLists<T>, list: KnownList<T>) -> Result
         → AreSaid section item address lists.new }
 {
     let number = number_of(list.place);
-    lists.known.insert(number, list)?;
-    Ok(())
+    match lists.known.insert(number, list) {
+        Ok(_) => Ok(()),
+        Err(_) => Err(NoMemory),
+    }
 }
 
 /// Reads entries from a place on, up to the end of the list, to where it is known what is said, or
@@ -204,23 +212,6 @@ fn said_from<T: Copy + Drop>(
     }
 }
 
-/// Keeps what a list says where less than that is kept.
-fn keep_within<T: Copy + Drop>(
-    room: usize,
-    lists: &mut KnownLists<T>,
-    list: KnownList<T>,
-) -> Result<(), NoMemory>
-    ensures { (section : Sectioned) (item : Entered T) (address : ℕ)
-        → AreSaid section item address lists.old
-        → IsSaid section item address list.place list.said
-        → AreSaid section item address lists.new }
-{
-    if lists.known.len() >= room {
-        return Ok(());
-    }
-    keep(lists, list)
-}
-
 /// Keeps what is said from an entry on, behind which that is said, where less than that is kept.
 fn keep_entry<T: Copy + Drop>(
     address: u32,
@@ -239,8 +230,10 @@ fn keep_entry<T: Copy + Drop>(
 {
     let place = passed.place;
     let said = said_from(address, place.base, passed.entry, behind);
-    keep_within(room, lists, KnownList { place, said })?;
-    Ok(said)
+    if lists.known.len() >= room {
+        return Ok(said);
+    }
+    keep(lists, KnownList { place, said }).and(Ok(said))
 }
 
 /// Keeps what is said from each of these entries on, behind which a list says this, and hands out
@@ -273,24 +266,29 @@ fn keep_entries<K: ListKind>(
     Ok(said)
 }
 
-/// What a list says of the address from a place on.
+/// What a list says of the address from a place on. The entries that are passed up to where it is
+/// known are kept meanwhile.
 fn said_from_place<K: ListKind>(
     sections: &Sections5<'_>,
     address: u32,
     place: ListPlace,
     lists: &mut KnownLists<K::What>,
+    passed: &mut Items<PassedEntry<K::What>>,
 ) -> Result<Option<Said<K::What>>, NoMemory>
     requires right { AreSaid (K.section sections.now) (K.item sections.now) address lists.old }
     requires inside { place.at ≤ length (K.section sections.now place.way) }
+    requires none { passed.old ≡ [] }
     ensures right { AreSaid (K.section sections.now) (K.item sections.now) address lists.new }
     ensures said { IfOk result
         (IsSaid (K.section sections.now) (K.item sections.now) address place) }
 {
-    let mut passed = Items::new(lists.alloc);
-    let stop = read_entries::<K>(sections, address, place, lists, &mut passed)?;
-    let said = keep_entries::<K>(sections, address, place, lists, &mut passed, stop)?;
-    keep(lists, KnownList { place, said })?;
-    Ok(said)
+    let Ok(stop) = read_entries::<K>(sections, address, place, lists, passed) else {
+        return Err(NoMemory);
+    };
+    match keep_entries::<K>(sections, address, place, lists, passed, stop) {
+        Ok(said) => keep(lists, KnownList { place, said }).and(Ok(said)),
+        Err(e) => Err(e),
+    }
 }
 
 /// What a list says of the address from a place on; none where it can't be read from there up to its
@@ -310,7 +308,10 @@ fn said_at<K: ListKind>(
     if place.at > section.len() {
         return Ok(None);
     }
-    said_from_place::<K>(sections, address, place, lists)
+    let mut passed = Items::new(lists.alloc);
+    let said = said_from_place::<K>(sections, address, place, lists, &mut passed);
+    drop(passed);
+    said
 }
 
 fn chosen_of<T: Copy + Drop>(said: Option<Said<T>>) -> Option<Option<T>>
@@ -337,6 +338,8 @@ pub fn chosen_in<K: ListKind>(
         (said_in (K.section sections.now) (K.item sections.now) address
         (place_of unit.now at))) }
 {
-    let said = said_at::<K>(sections, address, place_of(unit, at as usize), lists)?;
-    Ok(chosen_of(said))
+    match said_at::<K>(sections, address, place_of(unit, at as usize), lists) {
+        Ok(said) => Ok(chosen_of(said)),
+        Err(e) => Err(e),
+    }
 }

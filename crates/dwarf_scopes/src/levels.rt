@@ -1,7 +1,8 @@
 //! Parts of the entries of a unit of which none is an inlined subroutine that holds an address: they
 //! are passed over.
 
-ghost use Rattle.std.specs.Prelude.{◌≡◌, ◌≤◌, ◌<◌, ◌+◌, ◌*◌, ℕ, List, [], true, false, length, take, drop, IfOk, OnOk, not, option_and_then};
+ghost use Rattle.std.specs.Prelude.{◌≡◌, ◌≤◌, ◌<◌, ◌+◌, ◌*◌, ℕ, List, [], true, false, length, take, drop};
+ghost use Rattle.std.specs.Prelude.{IfOk, OnOk, not, option_and_then};
 ghost use Rattle.std.specs.List.{list_any};
 ghost use Rattle.dwarf_info.specs.declared.entry.Entry.{Entry as Listed};
 ghost use Rattle.dwarf_scopes.specs.calls.Spans.{covers};
@@ -159,8 +160,12 @@ fn larger(alloc: Global, parts: &[Spans]) -> Result<Items<Spans>, NoMemory>
         → definitions.AreParts (size * 8) more entries) }
 {
     let double = doubled(alloc, parts)?;
-    let fourfold = doubled(alloc, double.as_slice())?;
-    doubled(alloc, fourfold.as_slice())
+    let made = doubled(alloc, double.as_slice());
+    drop(double);
+    let fourfold = made?;
+    let eightfold = doubled(alloc, fourfold.as_slice());
+    drop(fourfold);
+    eightfold
 }
 
 /// Appends the levels of entries, as far as there are whole parts.
@@ -183,8 +188,7 @@ fn push_sizes(
     if parts.is_empty() {
         return Ok(());
     }
-    levels.push(Level { size, parts })?;
-    Ok(())
+    levels.push(Level { size, parts })
 }
 
 /// An entry that holds no address as an inlined subroutine.
@@ -216,8 +220,7 @@ fn sized(alloc: Global, quiet: bool, entries: &[Entry<'_>]) -> Result<Items<Leve
     if quiet {
         return Ok(levels);
     }
-    push_sizes(alloc, entries, &mut levels)?;
-    Ok(levels)
+    push_sizes(alloc, entries, &mut levels).and(Ok(levels))
 }
 
 /// Counts in four bytes each. More than these can say no memory holds.
@@ -238,7 +241,9 @@ fn counts_of(alloc: Global, entries: &[Entry<'_>]) -> Result<Items<u32>, NoMemor
     ensures { IfOk result (λ counts. counts ≡ insides entries.now) }
 {
     let counts = insides_of(alloc, entries)?;
-    narrowed(alloc, counts.as_slice())
+    let narrow = narrowed(alloc, counts.as_slice());
+    drop(counts);
+    narrow
 }
 
 impl UnitLevels {
@@ -249,12 +254,17 @@ impl UnitLevels {
         let entries = unit.entries.as_slice();
         let quiet = are_silent(entries);
         let counts = counts_of(alloc, entries)?;
-        let levels = sized(alloc, quiet, entries)?;
-        Ok(UnitLevels {
-            counts,
-            quiet,
-            levels,
-        })
+        match sized(alloc, quiet, entries) {
+            Ok(levels) => Ok(UnitLevels {
+                counts,
+                quiet,
+                levels,
+            }),
+            Err(e) => {
+                drop(counts);
+                Err(e)
+            }
+        }
     }
 
     /// None.

@@ -61,9 +61,10 @@ fn push_listed(
         return Ok(());
     }
     let number = number_of(place);
-    seen.insert(number, place)?;
-    numbers.push(index)?;
-    Ok(())
+    match seen.insert(number, place) {
+        Ok(_) => numbers.push(index),
+        Err(_) => Err(NoMemory),
+    }
 }
 
 /// The numbers of those that have a list and no bounds. Of those with one list, which hold the same

@@ -25,10 +25,9 @@ pub fn location_in(
     ensures { result ≡ found_at at (lists.location_in sections.now unit.now at address) }
 {
     if unit.version == 5 {
-        location5_at(sections, unit, at, address)
-    } else {
-        dwarf_loc::location_at(sections.base.loc, at, list_base(unit), address)
+        return location5_at(sections, unit, at, address);
     }
+    dwarf_loc::location_at(sections.base.loc, at, list_base(unit), address)
 }
 
 /// Whether an entry of a range list holds an address: in `.debug_rnglists` where the unit is of
@@ -46,8 +45,7 @@ pub fn range_in(
     ensures { result ≡ found_at at (lists.range_in sections.now unit.now at address) }
 {
     if unit.version == 5 {
-        range5_holds(sections, unit, at, address)
-    } else {
-        dwarf_loc::range_holds(sections.base.ranges, at, list_base(unit), address)
+        return range5_holds(sections, unit, at, address);
     }
+    dwarf_loc::range_holds(sections.base.ranges, at, list_base(unit), address)
 }

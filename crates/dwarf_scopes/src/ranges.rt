@@ -4,7 +4,7 @@ ghost use Rattle.std.specs.Prelude.{ℕ, ◌≡◌, IfOk};
 ghost use Rattle.dwarf_scopes.specs.Ranges as ranges;
 ghost use Rattle.dwarf_scopes.specs.calls.Knowing.{AreRight};
 
-use crate::asked::{KnownRanges, in_list_if};
+use crate::asked::{KnownRanges, in_list};
 use causes::NoMemory;
 use dwarf_entries::names::{HIGH_PC, LOW_PC, RANGES};
 use dwarf_entries::{Standing, address, attribute, offset};
@@ -51,11 +51,11 @@ pub fn holds_by_known(
     ensures right { AreRight sections.now address lists.new }
 {
     let entry = standing.entry();
-    match bounds(entry) {
-        Some((low, high)) => Ok(low <= address && i128::from(address) < high),
-        None => {
-            let at = offset(&entry.attributes, RANGES);
-            in_list_if(sections, standing.unit(), address, at, lists)
-        }
+    if let Some((low, high)) = bounds(entry) {
+        return Ok(low <= address && i128::from(address) < high);
     }
+    let Some(at) = offset(&entry.attributes, RANGES) else {
+        return Ok(false);
+    };
+    in_list(sections, standing.unit(), address, at, lists)
 }

@@ -108,10 +108,11 @@ fn push_if_wanted<'r, 'a>(
         (stands unit.now entry.now behind.now ∷ [])) }
 {
     let standing = Standing::new(unit, entry, behind);
-    if is_wanted(pick, blocks, &standing, lists)? {
-        found.push(standing)?;
+    match is_wanted(pick, blocks, &standing, lists) {
+        Ok(true) => found.push(standing),
+        Ok(false) => Ok(()),
+        Err(e) => Err(e),
     }
-    Ok(())
 }
 
 /// Appends the scopes among these entries, with or without lexical blocks.
@@ -136,6 +137,28 @@ fn push_scopes<'r, 'a>(
     Ok(())
 }
 
+/// Appends a subprogram, and the scopes in it that hold an address, with or without lexical blocks.
+fn push_scopes_in<'r, 'a>(
+    alloc: Global,
+    pick: &ScopeAt<'_, 'a>,
+    blocks: bool,
+    subprogram: Standing<'r, 'a>,
+    scopes: &mut Items<Standing<'r, 'a>>,
+) -> Result<(), NoMemory>
+    requires { scopes.old ≡ [] }
+    ensures { OnOk result (scopes.new ≡ subprogram.entry
+        ∷ filter (is_wanted blocks pick.now.sections.now pick.now.address)
+        (inside subprogram.entry)) }
+{
+    let unit = subprogram.unit();
+    let entries = subprogram.inside();
+    scopes.push(subprogram)?;
+    let mut lists = no_ranges(alloc);
+    let pushed = push_scopes(pick, blocks, unit, entries, &mut lists, scopes);
+    drop(lists);
+    pushed
+}
+
 /// A subprogram, and the scopes in it that hold an address, with or without lexical blocks.
 fn scopes_in<'r, 'a>(
     alloc: Global,
@@ -147,19 +170,9 @@ fn scopes_in<'r, 'a>(
     ensures { IfOk result (λ xs. xs ≡ subprogram.entry
         ∷ filter (is_wanted blocks sections.now address) (inside subprogram.entry)) }
 {
-    let unit = subprogram.unit();
-    let inside = subprogram.inside();
+    let pick = ScopeAt { sections, address };
     let mut scopes = Items::new(alloc);
-    scopes.push(subprogram)?;
-    push_scopes(
-        &ScopeAt { sections, address },
-        blocks,
-        unit,
-        inside,
-        &mut no_ranges(alloc),
-        &mut scopes,
-    )?;
-    Ok(scopes)
+    push_scopes_in(alloc, &pick, blocks, subprogram, &mut scopes).and(Ok(scopes))
 }
 
 /// The subprogram at an address, and the lexical blocks and inlined subroutines in it that hold the
@@ -173,9 +186,10 @@ pub fn scopes_at<'r, 'a>(
 ) -> Result<Items<Standing<'r, 'a>>, NoMemory>
     ensures { IfOk result (λ xs. xs ≡ scopes.scopes_at sections.now units.now address) }
 {
-    match subprogram_at(alloc, sections, units, address)? {
-        Some(subprogram) => scopes_in(alloc, sections, address, true, subprogram),
-        None => Ok(Items::new(alloc)),
+    match subprogram_at(alloc, sections, units, address) {
+        Ok(Some(subprogram)) => scopes_in(alloc, sections, address, true, subprogram),
+        Ok(None) => Ok(Items::new(alloc)),
+        Err(e) => Err(e),
     }
 }
 
@@ -208,8 +222,10 @@ pub fn inlined_in<'r, 'a>(
     ensures { IfOk result (λ xs. xs ≡ reverse (filter is_inlined
         (scopes.scopes_in sections.now address subprogram.entry))) }
 {
-    let scopes = scopes_in(alloc, sections, address, false, subprogram)?;
-    inlined_of(alloc, scopes)
+    match scopes_in(alloc, sections, address, false, subprogram) {
+        Ok(scopes) => inlined_of(alloc, scopes),
+        Err(e) => Err(e),
+    }
 }
 
 /// How many of these entries, which stand in a unit from a number on, are passed over: none of them
@@ -271,8 +287,36 @@ fn push_inlined<'r, 'a>(
     Ok(())
 }
 
+/// Appends a subprogram, and the inlined subroutines in it that hold an address: those among these
+/// entries, which stand in it, from a number on in its unit.
+fn push_inlined_in<'r, 'a>(
+    alloc: Global,
+    pick: &ScopeAt<'_, 'a>,
+    subprogram: Standing<'r, 'a>,
+    levels: &UnitLevels,
+    start: usize,
+    entries: &'r [Entry<'a>],
+    found: &mut Items<Standing<'r, 'a>>,
+) -> Result<(), NoMemory>
+    requires inside { entries.now ≡ entries_inside subprogram }
+    requires levels { AreLevels subprogram.unit.entries levels.now }
+    requires stand { StandFrom start entries.now subprogram.unit.entries }
+    requires none { found.old ≡ [] }
+    ensures { OnOk result (found.new ≡ subprogram.entry
+        ∷ filter (is_wanted false pick.now.sections.now pick.now.address)
+        (inside subprogram.entry)) }
+{
+    let unit = subprogram.unit();
+    found.push(subprogram)?;
+    let mut lists = no_ranges(alloc);
+    let pushed = push_inlined(pick, unit, levels, start, entries, &mut lists, found);
+    drop(lists);
+    pushed
+}
+
 /// The inlined subroutines in a subprogram that hold an address, the innermost first: those among
 /// these entries, which stand in it, from a number on in its unit.
+#[tactic(auto, using(crate::proofs::Filters::inlined_alone))]
 pub fn inlined_by<'r, 'a>(
     alloc: Global,
     sections: &Sections5<'a>,
@@ -288,20 +332,15 @@ pub fn inlined_by<'r, 'a>(
     ensures { IfOk result (λ xs. xs ≡ reverse (filter is_inlined
         (scopes.scopes_in sections.now address subprogram.entry))) }
 {
-    let unit = subprogram.unit();
-    let mut lists = no_ranges(alloc);
+    let pick = ScopeAt { sections, address };
     let mut found = Items::new(alloc);
-    found.push(subprogram)?;
-    push_inlined(
-        &ScopeAt { sections, address },
-        unit,
-        levels,
-        start,
-        entries,
-        &mut lists,
-        &mut found,
-    )?;
-    inlined_of(alloc, found)
+    match push_inlined_in(alloc, &pick, subprogram, levels, start, entries, &mut found) {
+        Ok(()) => inlined_of(alloc, found),
+        Err(e) => {
+            drop(found);
+            Err(e)
+        }
+    }
 }
 
 /// The inlined subroutines that hold an address, the innermost first.
@@ -314,6 +353,8 @@ pub fn inlined_at<'r, 'a>(
 ) -> Result<Items<Standing<'r, 'a>>, NoMemory>
     ensures { IfOk result (λ xs. xs ≡ scopes.inlined_at sections.now units.now address) }
 {
-    let scopes = scopes_at(alloc, sections, units, address)?;
-    inlined_of(alloc, scopes)
+    match scopes_at(alloc, sections, units, address) {
+        Ok(scopes) => inlined_of(alloc, scopes),
+        Err(e) => Err(e),
+    }
 }

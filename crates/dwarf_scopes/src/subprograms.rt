@@ -85,18 +85,18 @@ impl<'r, 'a> Found<'r, 'a> {
         ensures inlined { IfOk result (λ x. x.inlined
             ≡ inlined_from sections.now address subprogram.entry) }
     {
-        match subprogram {
-            Some(subprogram) => {
-                let inlined = inlined_in(alloc, sections, address, subprogram.copied())?;
-                Ok(Found {
-                    subprogram: Some(subprogram),
-                    inlined,
-                })
-            }
-            None => Ok(Found {
+        let Some(subprogram) = subprogram else {
+            return Ok(Found {
                 subprogram: None,
                 inlined: Items::new(alloc),
+            });
+        };
+        match inlined_in(alloc, sections, address, subprogram.copied()) {
+            Ok(inlined) => Ok(Found {
+                subprogram: Some(subprogram),
+                inlined,
             }),
+            Err(e) => Err(e),
         }
     }
 }
@@ -138,7 +138,7 @@ fn found_by_levels<'r, 'a>(
     let count = count_of(levels, number);
     let inside = first_entries(behind, count);
     let subprogram = Standing::new(unit, entry, behind);
-    let inlined = inlined_by(
+    match inlined_by(
         alloc,
         sections,
         address,
@@ -146,11 +146,13 @@ fn found_by_levels<'r, 'a>(
         levels,
         number + 1,
         inside,
-    )?;
-    Ok(Found {
-        subprogram: Some(subprogram),
-        inlined,
-    })
+    ) {
+        Ok(inlined) => Ok(Found {
+            subprogram: Some(subprogram),
+            inlined,
+        }),
+        Err(e) => Err(e),
+    }
 }
 
 /// The same in any unit, of which the levels may be known.
@@ -168,15 +170,13 @@ pub fn found_in_unit<'r, 'a>(
     ensures inlined { IfOk result (λ x. x.inlined ≡ inlined_from sections.now address
         (placed_in (Some answer.now) number)) }
 {
-    match answer {
-        UnitAnswer::Tree(unit) => {
-            found_by_levels(alloc, sections, address, unit, number, levels)
-        }
-        UnitAnswer::Unreadable { section: _, at: _ } => Ok(Found {
+    let UnitAnswer::Tree(unit) = answer else {
+        return Ok(Found {
             subprogram: None,
             inlined: Items::new(alloc),
-        }),
-    }
+        });
+    };
+    found_by_levels(alloc, sections, address, unit, number, levels)
 }
 
 /// Whether an entry is a subprogram that holds an address and is not removed, where lists were
@@ -216,10 +216,11 @@ fn first_of<'r, 'a>(
     let mut left = entries;
     'entries: while let [entry, behind @ ..] = left {
         let standing = Standing::new(unit, entry, behind);
-        if is_subprogram_at(sections, address, &standing, lists)? {
-            return Ok(Some(standing));
+        match is_subprogram_at(sections, address, &standing, lists) {
+            Ok(false) => left = behind,
+            Ok(true) => return Ok(Some(standing)),
+            Err(e) => return Err(e),
         }
-        left = behind;
     }
     Ok(None)
 }
@@ -235,12 +236,10 @@ fn first_in<'r, 'a>(
         (of_unit answer.now)) }
     ensures right { AreRight sections.now address lists.new }
 {
-    match answer {
-        UnitAnswer::Tree(unit) => {
-            first_of(sections, address, unit, unit.entries.as_slice(), lists)
-        }
-        UnitAnswer::Unreadable { section: _, at: _ } => Ok(None),
-    }
+    let UnitAnswer::Tree(unit) = answer else {
+        return Ok(None);
+    };
+    first_of(sections, address, unit, unit.entries.as_slice(), lists)
 }
 
 /// The first one among the entries of all units.
@@ -255,9 +254,10 @@ fn first_among<'r, 'a>(
         (standing units.now)) }
 {
     for answer in units {
-        let found = first_in(sections, address, answer, lists)?;
-        if let Some(subprogram) = found {
-            return Ok(Some(subprogram));
+        match first_in(sections, address, answer, lists) {
+            Ok(None) => {}
+            Ok(Some(subprogram)) => return Ok(Some(subprogram)),
+            Err(e) => return Err(e),
         }
     }
     Ok(None)
@@ -274,7 +274,10 @@ pub fn subprogram_at<'r, 'a>(
 ) -> Result<Option<Standing<'r, 'a>>, NoMemory>
     ensures { IfOk result (λ x. x ≡ scopes.subprogram_at sections.now units.now address) }
 {
-    first_among(sections, address, units, &mut no_ranges(alloc))
+    let mut lists = no_ranges(alloc);
+    let first = first_among(sections, address, units, &mut lists);
+    drop(lists);
+    first
 }
 
 /// What stands at an address. Where many are looked up, `SubprogramTable` finds it faster.

@@ -1,7 +1,8 @@
 //! The subprograms of all units by the places where they stand: a table that is kept without a borrow
 //! of the units.
 
-ghost use Rattle.std.specs.Prelude.{◌≡◌, ◌++◌, ◌+◌, ◌<◌, [], None, IfOk, OnOk, drop, length, slice_get, option_and_then};
+ghost use Rattle.std.specs.Prelude.{◌≡◌, ◌++◌, ◌+◌, ◌<◌, [], None, IfOk, OnOk, drop, length, slice_get};
+ghost use Rattle.std.specs.Prelude.{option_and_then};
 ghost use Rattle.dwarf_scopes.specs.Scopes as scopes;
 ghost use Rattle.dwarf_scopes.specs.calls.Tabled as tabled;
 ghost use Rattle.dwarf_scopes.specs.calls.Levels.{AreLeveled};
@@ -142,7 +143,9 @@ fn holders_of(alloc: Global, units: &[UnitAnswer<'_>]) -> Result<Holders, NoMemo
     ensures { IfOk result (λ holders. AreHolders (kept units.now) holders) }
 {
     let kept = all_kept(alloc, units)?;
-    Holders::of(alloc, kept.as_slice())
+    let holders = Holders::of(alloc, kept.as_slice());
+    drop(kept);
+    holders
 }
 
 fn place_of_number(places: &[EntryPlace], number: Option<usize>) -> Option<EntryPlace>
@@ -178,10 +181,10 @@ fn found_there<'r, 'a>(
     let Some(answer) = units.get(place.unit) else {
         return Ok(nothing_found(alloc));
     };
-    match levels.get(place.unit) {
-        Some(levels) => { found_in_unit(alloc, sections, address, answer, place.entry, levels) }
-        None => Found::of(alloc, sections, address, placed(units, place)),
-    }
+    let Some(levels) = levels.get(place.unit) else {
+        return Found::of(alloc, sections, address, placed(units, place));
+    };
+    found_in_unit(alloc, sections, address, answer, place.entry, levels)
 }
 
 /// What stands at a place, if there is one.
@@ -199,10 +202,10 @@ fn found_at_place<'r, 'a>(
     ensures inlined { IfOk result (λ x. x.inlined ≡ inlined_from sections.now address
         (option_and_then (tabled.placed units.now) place)) }
 {
-    match place {
-        Some(place) => found_there(alloc, sections, units, address, levels, place),
-        None => Ok(nothing_found(alloc)),
-    }
+    let Some(place) = place else {
+        return Ok(nothing_found(alloc));
+    };
+    found_there(alloc, sections, units, address, levels, place)
 }
 
 /// The subprograms of all units that are not removed, by the places where they stand. It is asked
@@ -220,14 +223,23 @@ impl SubprogramTable {
     pub fn of(alloc: Global, units: &[UnitAnswer<'_>]) -> Result<Self, NoMemory>
         ensures { IfOk result (λ table. tabled.IsTable units.now table) }
     {
-        let holders = holders_of(alloc, units)?;
         let places = all_places(alloc, units)?;
-        let levels = all_levels(alloc, units)?;
-        Ok(SubprogramTable {
-            places,
-            holders,
-            levels,
-        })
+        let Ok(levels) = all_levels(alloc, units) else {
+            drop(places);
+            return Err(NoMemory);
+        };
+        match holders_of(alloc, units) {
+            Ok(holders) => Ok(SubprogramTable {
+                places,
+                holders,
+                levels,
+            }),
+            Err(e) => {
+                drop(places);
+                drop(levels);
+                Err(e)
+            }
+        }
     }
 
     /// The first one that holds an address.

@@ -2,7 +2,7 @@
 
 ghost use Rattle.std.specs.Prelude.{◌≡◌, ◌++◌, ◌+◌, ◌<◌, ◌^◌, ◌==◌, suc, OnOk, IfOk, length, take, drop, ◌≤◌, [], ◌∷◌};
 ghost use Rattle.std.specs.Prelude.{filter, flat_map, if◌then◌else◌};
-ghost use Rattle.dwarf_entries.specs.Standing.{stands, standing_in};
+ghost use Rattle.dwarf_entries.specs.Standing.{stands, standing_in, entries_inside};
 ghost use Rattle.dwarf_scopes.specs.Scopes as scopes;
 ghost use Rattle.dwarf_scopes.specs.inner.Insides.{deeper, insides};
 ghost use Rattle.dwarf_scopes.specs.calls.Knowing.{AreRight};
@@ -70,10 +70,10 @@ fn push_if_variable<'r, 'a>(
         ++ filter (is_variable_of depth) (stands unit.now entry.now behind.now ∷ [])) }
 {
     let standing = Standing::new(unit, entry, behind);
-    if is_variable(depth, &standing) {
-        variables.push(standing)?;
+    if !is_variable(depth, &standing) {
+        return Ok(());
     }
-    Ok(())
+    variables.push(standing)
 }
 
 /// Appends the formal parameters and variables among these entries that are children of one of this
@@ -160,17 +160,18 @@ fn push_if_scope<'r, 'a>(
         (filter (scopes.is_scope_at pick.now.sections.now pick.now.address)
         (stands unit.now entry.now behind.now ∷ []))) }
 {
-    if pick.picks(&Standing::new(unit, entry, behind), lists)? {
-        return push_variables(
+    match pick.picks(&Standing::new(unit, entry, behind), lists) {
+        Ok(true) => push_variables(
             unit,
             entry,
             behind,
             counted.inside,
             counted.behind,
             variables,
-        );
+        ),
+        Ok(false) => Ok(()),
+        Err(e) => Err(e),
     }
-    Ok(())
 }
 
 /// Appends the formal parameters and variables of each of these entries that is a scope at the
@@ -211,6 +212,31 @@ fn push_scopes<'r, 'a>(
     Ok(())
 }
 
+/// Appends the variables of a subprogram and of the scopes in it that hold an address. These stand
+/// in it, and it is known of each how many stand in that.
+fn push_counted<'r, 'a>(
+    alloc: Global,
+    pick: &ScopeAt<'_, 'a>,
+    subprogram: &Standing<'r, 'a>,
+    entries: &'r [Entry<'a>],
+    counts: &[usize],
+    variables: &mut Items<Standing<'r, 'a>>,
+) -> Result<(), NoMemory>
+    requires inside { entries.now ≡ entries_inside subprogram.now }
+    requires counts { counts.now ≡ insides entries.now }
+    requires none { variables.old ≡ [] }
+    ensures { OnOk result (variables.new ≡ flat_map scopes.variables_of
+        (scopes.scopes_in pick.now.sections.now pick.now.address subprogram.now)) }
+{
+    let unit = subprogram.unit();
+    let depth = subprogram.entry().depth;
+    push_children(unit, depth, entries, counts, variables)?;
+    let mut lists = no_ranges(alloc);
+    let pushed = push_scopes(pick, unit, entries, counts, &mut lists, variables);
+    drop(lists);
+    pushed
+}
+
 /// The variables of a subprogram and of the scopes in it that hold an address.
 fn variables_in<'r, 'a>(
     alloc: Global,
@@ -221,26 +247,19 @@ fn variables_in<'r, 'a>(
     ensures { IfOk result (λ xs. xs
         ≡ flat_map scopes.variables_of (scopes.scopes_in sections.now address subprogram.now)) }
 {
-    let unit = subprogram.unit();
     let entries = subprogram.inside();
     let counts = insides_of(alloc, entries)?;
     let mut variables = Items::new(alloc);
-    push_children(
-        unit,
-        subprogram.entry().depth,
-        entries,
-        counts.as_slice(),
-        &mut variables,
-    )?;
-    push_scopes(
+    let pushed = push_counted(
+        alloc,
         &ScopeAt { sections, address },
-        unit,
+        subprogram,
         entries,
         counts.as_slice(),
-        &mut no_ranges(alloc),
         &mut variables,
-    )?;
-    Ok(variables)
+    );
+    drop(counts);
+    pushed.and(Ok(variables))
 }
 
 /// The variables that are visible at an address, by the subprogram there. It takes time linear in what
@@ -270,6 +289,8 @@ pub fn variables_at<'r, 'a>(
 ) -> Result<Items<Standing<'r, 'a>>, NoMemory>
     ensures { IfOk result (λ xs. xs ≡ scopes.variables_at sections.now units.now address) }
 {
-    let subprogram = subprogram_at(alloc, sections, units, address)?;
-    variables_from(alloc, sections, address, &subprogram)
+    match subprogram_at(alloc, sections, units, address) {
+        Ok(subprogram) => variables_from(alloc, sections, address, &subprogram),
+        Err(e) => Err(e),
+    }
 }

@@ -6,9 +6,11 @@ ghost use Rattle.dwarf_entries.specs.Names.{as_natural, at_bit_size, at_data_bit
 ghost use Rattle.var_values.specs.calls.Near.{IsNear};
 ghost use Rattle.var_values.specs.Members as members;
 ghost use Rattle.var_values.specs.inner.Close.{IsClose};
+ghost use Rattle.var_values.specs.inner.Parts.{own_source};
 
 use crate::bits::Bits;
 use crate::place::Place;
+use crate::{Mark, Source, constant_source};
 use dwarf_entries::names::{BIT_SIZE, DATA_BIT_OFFSET, DATA_MEMBER_LOCATION};
 use dwarf_entries::{attribute, natural};
 use dwarf_info::{AttrValue, Attributes, Entry};
@@ -100,5 +102,41 @@ pub fn part_at<'s>(place: &Place<'s>, entry: &Entry<'_>) -> Option<Place<'s>>
     match attribute(&entry.attributes, BIT_SIZE) {
         Some(_) => at_bits(place, entry),
         None => at_location(place, entry),
+    }
+}
+
+/// Where the value of a member comes from that is no part of its structure: a static one is no more
+/// than its constant, and one of another form is nowhere.
+pub fn own_source(entry: &Entry<'_>) -> Source
+    ensures { result ≡ own_source entry.now }
+{
+    if is_static(entry) {
+        return constant_source(&entry.attributes);
+    }
+    Source::Lost(Mark::UnsupportedType)
+}
+
+/// Where a member of a structure at a place stands: in the structure, or at the start of its own
+/// source where it is no part of it.
+pub fn member_place<'s: 'n, 'n>(place: &Place<'s>, entry: &Entry<'_>, own: &'n Source) -> Place<'n>
+    requires near { IsNear 1 place.now.offset }
+    requires own { own.now ≡ own_source entry.now }
+    ensures is { result ≡ members.member_place place.now entry.now }
+    ensures near { (n : ℕ) → IsNear (suc n) place.now.offset → IsNear n result.offset }
+{
+    if is_static(entry) {
+        return Place {
+            source: own,
+            offset: 0,
+            bits: None,
+        };
+    }
+    if let Some(member) = part_at(place, entry) {
+        return member;
+    }
+    Place {
+        source: own,
+        offset: place.offset,
+        bits: None,
     }
 }

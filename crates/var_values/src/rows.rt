@@ -1,6 +1,7 @@
 //! The rows of an array, written without recursion: an array may have very many subranges.
 
-ghost use Rattle.std.specs.Prelude.{ℕ, ◌≡◌, ◌<◌, ◌+◌, ◌*◌, ◌^◌, ◌++◌, ◌∷◌, [], Some, None, List, length, unwrap_or, OnOk};
+ghost use Rattle.std.specs.Prelude.{ℕ, ◌≡◌, ◌<◌, ◌+◌, ◌*◌, ◌^◌, ◌++◌, ◌∷◌, [], Some, None, List, length};
+ghost use Rattle.std.specs.Prelude.{unwrap_or, OnOk};
 ghost use Rattle.std.specs.Prelude.{IfOk, IfSome, IfNone, option_and_then, codes};
 ghost use Rattle.dwarf_types.specs.calls.Subranges.{Subranges};
 ghost use Rattle.var_values.specs.inner.Odometer as odometer;

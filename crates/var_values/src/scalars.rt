@@ -235,10 +235,7 @@ pub fn push_scalar<'r, 'k, 'a>(
 {
     let bits = bits_of(place, size);
     match word_in(view, place, bits) {
-        Ok(word) => {
-            push_word(text, units, standing, size, bits.count, word)?;
-            Ok(None)
-        }
+        Ok(word) => push_word(text, units, standing, size, bits.count, word).and(Ok(None)),
         Err(mark) => Ok(Some(mark)),
     }
 }

@@ -1,6 +1,6 @@
 //! Texts of values, by recursion on their types (DWARF 4 sections 5.4, 5.5 and 5.7).
 
-ghost use Rattle.std.specs.Prelude.{◌≡◌, ◌≢◌, ◌<◌, ◌^◌, ◌++◌, suc, true, drop, map, unwrap_or, IsSome};
+ghost use Rattle.std.specs.Prelude.{◌≡◌, ◌<◌, ◌^◌, ◌++◌, suc, true, drop, map, IsSome};
 ghost use Rattle.std.specs.Prelude.{OnOk, IfOk, ℕ, pos};
 ghost use Rattle.dwarf_entries.specs.Origins.{longest_chain};
 ghost use Rattle.dwarf_types.specs.Types.{class_at, type_of as type_at};
@@ -10,23 +10,23 @@ ghost use Rattle.dwarf_types.specs.declared.behind.Typed.TheVariants as typeds;
 ghost use Rattle.dwarf_types.specs.declared.class.Class.TheVariants as classes;
 ghost use Rattle.var_values.specs.Places.{further as further_on};
 ghost use Rattle.var_values.specs.calls.Near.{IsNear};
-ghost use Rattle.var_values.specs.Members.{member_place, part_at, unplaced};
+ghost use Rattle.var_values.specs.Members.{member_place as the_member_place};
 ghost use Rattle.var_values.specs.Suits as suiting;
 ghost use Rattle.var_values.specs.Variants.{items as the_items};
 ghost use Rattle.var_values.specs.Values as values;
 ghost use Rattle.var_values.specs.Values.{value_text, in_place};
 ghost use Rattle.var_values.specs.inner.Odometer as odometer;
 ghost use Rattle.var_values.specs.calls.Told.{Tells};
-ghost use Rattle.var_values.specs.inner.Parts.{element_text, inner_size, separator};
+ghost use Rattle.var_values.specs.inner.Parts.{element_text, separator};
 
 use crate::item::Item;
 use crate::levels::Rows;
-use crate::members::{self, is_static};
+use crate::members::{member_place, own_source};
 use crate::place::Place;
 use crate::scalars::push_scalar;
 use crate::suits::suits;
 use crate::variants::items_of;
-use crate::{Mark, Source, constant_source};
+use crate::{Mark, Source};
 use causes::NoMemory;
 use dwarf_entries::{LONGEST_CHAIN, name_or_empty};
 use dwarf_expr::FrameView;
@@ -62,16 +62,6 @@ fn inner_type<'r, 'k, 'a>(
     type_of(units, &standing.entry().attributes)
 }
 
-/// The size of the innermost elements of an array, where it has one.
-fn inner_size<'r, 'k, 'a>(
-    units: &TypedUnits<'r, 'k, 'a>,
-    standing: &TypeStanding<'r, 'k, 'a>,
-) -> u64
-    ensures { result ≡ inner_size units.now standing.now }
-{
-    type_size(units, &inner_type(units, standing)).unwrap_or(0)
-}
-
 /// Appends the text of a value, or tells the mark in its place, where at most so many type entries
 /// follow each other.
 #[cycle(values)]
@@ -86,46 +76,20 @@ fn push_within<'t, 'r, 'k, 'w, 'v, 'a>(
     ensures { IfOk result (λ mark. Tells (value_text context.now.units.now
         context.now.view.now.memory most typed.now place.now) mark text.old text.new) }
 {
-    match typed {
-        Typed::Nothing => Ok(Some(Mark::UnsupportedType)),
-        Typed::At { standing, skipped } => {
-            if most == 0 {
-                return Ok(Some(Mark::TypeTooDeep));
-            }
-            match class_at(standing) {
-                Class::Passed => {
-                    let next = inner_type(context.units, standing);
-                    push_within(text, context, most - 1, &next, place)
-                }
-                _ => push_passed(text, context, most, typed, standing, *skipped, place),
-            }
-        }
+    let Typed::At { standing, skipped } = typed else {
+        return Ok(Some(Mark::UnsupportedType));
+    };
+    if most == 0 {
+        return Ok(Some(Mark::TypeTooDeep));
     }
-}
-
-/// Appends the text of a value, or tells the mark in its place, where no other type stands behind
-/// the type.
-#[cycle(values)]
-fn push_passed<'t, 'r, 'k, 'w, 'v, 'a>(
-    text: &mut Text,
-    context: &Context<'t, 'r, 'k, 'w, 'v, 'a>,
-    most: u32,
-    typed: &Typed<'r, 'k, 'a>,
-    standing: &TypeStanding<'r, 'k, 'a>,
-    skipped: usize,
-    place: &Place<'_>,
-) -> Result<Option<Mark>, NoMemory>
-    requires some { 0 < most }
-    requires near { IsNear most place.now.offset }
-    requires typed { typed.now ≡ typeds.At standing.now skipped }
-    requires class { class_at standing.now ≢ classes.Passed }
-    ensures { IfOk result (λ mark. Tells (value_text context.now.units.now
-        context.now.view.now.memory most typed.now place.now) mark text.old text.new) }
-{
-    match type_size(context.units, typed) {
-        Some(size) => push_sized(text, context, most - 1, standing, skipped, size, place),
-        None => Ok(Some(Mark::UnsupportedType)),
+    if let Class::Passed = class_at(standing) {
+        let next = inner_type(context.units, standing);
+        return push_within(text, context, most - 1, &next, place);
     }
+    let Some(size) = type_size(context.units, typed) else {
+        return Ok(Some(Mark::UnsupportedType));
+    };
+    push_sized(text, context, most - 1, standing, *skipped, size, place)
 }
 
 /// Appends the text of a value of this size, or tells the mark in its place.
@@ -208,33 +172,6 @@ fn push_in_place<'t, 'r, 'k, 'w, 'v, 'a>(
     }
 }
 
-/// Appends the value of a member that is part of its structure, or its mark.
-#[cycle(values)]
-fn push_part_value<'t, 'r, 'k, 'w, 'v, 'a>(
-    text: &mut Text,
-    context: &Context<'t, 'r, 'k, 'w, 'v, 'a>,
-    further: u32,
-    entry: &'r Entry<'a>,
-    place: &Place<'_>,
-) -> Result<(), NoMemory>
-    requires near { IsNear (suc further) place.now.offset }
-    ensures { OnOk result (text.new ≡ text.old ++ in_place (value_text context.now.units.now
-        context.now.view.now.memory further (type_at context.now.units.now entry.now.attributes)
-        (unwrap_or (part_at place.now entry.now) (unplaced place.now)))) }
-{
-    let typed = type_of(context.units, &entry.attributes);
-    if let Some(member) = members::part_at(place, entry) {
-        return push_in_place(text, context, further, &typed, &member);
-    }
-    let nowhere = Source::Lost(Mark::UnsupportedType);
-    let member = Place {
-        source: &nowhere,
-        offset: place.offset,
-        bits: None,
-    };
-    push_in_place(text, context, further, &typed, &member)
-}
-
 /// Appends the value of a member, or its mark.
 #[cycle(values)]
 fn push_member_value<'t, 'r, 'k, 'w, 'v, 'a>(
@@ -247,18 +184,11 @@ fn push_member_value<'t, 'r, 'k, 'w, 'v, 'a>(
     requires near { IsNear (suc further) place.now.offset }
     ensures { OnOk result (text.new ≡ text.old ++ in_place (value_text context.now.units.now
         context.now.view.now.memory further (type_at context.now.units.now entry.now.attributes)
-        (member_place place.now entry.now))) }
+        (the_member_place place.now entry.now))) }
 {
-    if !is_static(entry) {
-        return push_part_value(text, context, further, entry, place);
-    }
     let typed = type_of(context.units, &entry.attributes);
-    let constant = constant_source(&entry.attributes);
-    let member = Place {
-        source: &constant,
-        offset: 0,
-        bits: None,
-    };
+    let own = own_source(entry);
+    let member = member_place(place, entry, &own);
     push_in_place(text, context, further, &typed, &member)
 }
 
@@ -328,8 +258,8 @@ fn push_members<'t, 'r, 'k, 'w, 'v, 'a>(
         (the_items context.now.units.now context.now.view.now.memory place.now longest_chain
         standing.now))) }
 {
-    let items = items_of(context.alloc, context.units, context.view, standing, place)?;
     text.push_str("{")?;
+    let items = items_of(context.alloc, context.units, context.view, standing, place)?;
     let entries = items.as_slice();
     let mut is_first = true;
     for item in entries {
@@ -337,7 +267,9 @@ fn push_members<'t, 'r, 'k, 'w, 'v, 'a>(
         push_item(text, context, further, item, place)?;
         is_first = false;
     }
-    text.push_str("}")
+    let pushed = text.push_str("}");
+    drop(items);
+    pushed
 }
 
 /// The place so many bytes on.
@@ -429,12 +361,14 @@ fn push_array<'t, 'r, 'k, 'w, 'v, 'a>(
         standing.now skipped 0 place.now) mark text.old text.new) }
 {
     let element = inner_type(context.units, standing);
-    let size = inner_size(context.units, standing);
+    let size = type_size(context.units, &element).unwrap_or(0);
     if let Some(array) = standing.rows_of(size) {
         return push_known(text, context, further, &element, place, array, skipped);
     }
     let array = ArrayRows::of(context.alloc, standing.standing(), size)?;
-    push_known(text, context, further, &element, place, &array, skipped)
+    let pushed = push_known(text, context, further, &element, place, &array, skipped);
+    drop(array);
+    pushed
 }
 
 /// Appends the text of a value of a type at a place, or appends nothing and tells the mark in its

@@ -1,6 +1,6 @@
 //! The variant that a discriminant chooses, and what stands in a structure (DWARF 4 section 5.5.9).
 
-ghost use Rattle.std.specs.Prelude.{◌≡◌, ◌≤◌, ◌<◌, ◌^◌, ◌&&◌, ◌++◌, true, nat_le, Some, Ok, ok_or, unwrap_or, IfSome};
+ghost use Rattle.std.specs.Prelude.{◌≡◌, ◌≤◌, ◌<◌, ◌^◌, ◌&&◌, ◌++◌, true, nat_le, Some, Ok, ok_or, IfSome};
 ghost use Rattle.std.specs.Prelude.{◌∷◌, [], IfOk, OnOk, flat_map};
 ghost use Rattle.std.specs.Option.{is_none};
 ghost use Rattle.dwarf_info.specs.Attributes.{as_block, attribute as the_attribute, valued};
@@ -11,23 +11,22 @@ ghost use Rattle.dwarf_types.specs.Sizes.{type_size as the_size};
 ghost use Rattle.dwarf_types.specs.calls.Inside.{picked};
 ghost use Rattle.dwarf_types.specs.declared.behind.Behind.TheVariants as behinds;
 ghost use Rattle.var_values.specs.declared.mark.Mark.TheVariants.{OptimisedOut};
-ghost use Rattle.var_values.specs.Members.{part_at as the_place, unplaced};
 ghost use Rattle.var_values.specs.Scalars.{bits_of};
 ghost use Rattle.var_values.specs.Suits.{suits};
 ghost use Rattle.var_values.specs.Variants as variants;
 ghost use Rattle.var_values.specs.calls.Near.{IsNear};
 ghost use Rattle.var_values.specs.inner.Passing.{passes};
 
+use crate::Mark;
 use crate::discriminant::Discriminant;
 use crate::item::Item;
 use crate::lists::is_listed;
-use crate::members::{is_static, part_at};
+use crate::members::{member_place, own_source};
 use crate::place::Place;
 use crate::scalars::{number_of, type_is_signed};
 use crate::suits::suits;
 use crate::texts::equals;
 use crate::word::{bits_of, word_in};
-use crate::{Mark, Source, constant_source};
 use causes::NoMemory;
 use dwarf_entries::tags::MEMBER;
 use dwarf_entries::{
@@ -141,52 +140,18 @@ fn discriminant_at<'r, 'a>(
     let units = structure.units;
     let attributes = &entry.attributes;
     let size = type_size(units, &type_of(units, attributes));
-    match resolved(units, LONGEST_CHAIN, type_of(units, attributes)) {
-        Behind::TooDeep => Err(Mark::TypeTooDeep),
-        Behind::Nothing => Err(Mark::UnsupportedType),
+    let standing = match resolved(units, LONGEST_CHAIN, type_of(units, attributes)) {
+        Behind::TooDeep => return Err(Mark::TypeTooDeep),
+        Behind::Nothing => return Err(Mark::UnsupportedType),
         Behind::Stands {
             standing,
             skipped: _,
-        } => match size {
-            Some(size) => sized_discriminant(
-                units,
-                structure.view,
-                standing.standing(),
-                size,
-                place,
-            ),
-            None => Err(Mark::UnsupportedType),
-        },
-    }
-}
-
-/// The discriminant that a member is which is part of the structure, or the mark in its place.
-fn part_discriminant<'r, 'a>(
-    structure: &Structure<'_, 'r, '_, '_, '_, '_, '_, 'a>,
-    entry: &'r Entry<'a>,
-) -> Result<Discriminant, Mark>
-    requires near { IsNear 1 structure.now.place.now.offset }
-    ensures is { result ≡ variants.discriminant_as structure.now.units.now
-        structure.now.view.now.memory
-        (unwrap_or (the_place structure.now.place.now entry.now)
-        (unplaced structure.now.place.now))
-        (the_size structure.now.units.now
-        (the_type structure.now.units.now entry.now.attributes))
-        (behind structure.now.units.now longest_chain
-        (the_type structure.now.units.now entry.now.attributes)) }
-    ensures short { IfOk result (λ d. d.size ≤ 8) }
-{
-    let whole = structure.place;
-    if let Some(place) = part_at(whole, entry) {
-        return discriminant_at(structure, entry, &place);
-    }
-    let nowhere = Source::Lost(Mark::UnsupportedType);
-    let place = Place {
-        source: &nowhere,
-        offset: whole.offset,
-        bits: None,
+        } => standing,
     };
-    discriminant_at(structure, entry, &place)
+    let Some(size) = size else {
+        return Err(Mark::UnsupportedType);
+    };
+    sized_discriminant(units, structure.view, standing.standing(), size, place)
 }
 
 /// The discriminant that a member of the structure is, or the mark in its place.
@@ -200,15 +165,8 @@ fn discriminant_of<'r, 'a>(
         structure.now.view.now.memory structure.now.place.now entry.now }
     ensures short { IfOk result (λ d. d.size ≤ 8) }
 {
-    if !is_static(entry) {
-        return part_discriminant(structure, entry);
-    }
-    let constant = constant_source(&entry.attributes);
-    let place = Place {
-        source: &constant,
-        offset: 0,
-        bits: None,
-    };
+    let own = own_source(entry);
+    let place = member_place(structure.place, entry, &own);
     discriminant_at(structure, entry, &place)
 }
 
@@ -460,8 +418,7 @@ fn push_standing<'r, 'a>(
         standing.standing().unit(),
         standing.inside_at(contents.range()),
         contents.positions(),
-    )?;
-    Ok(())
+    )
 }
 
 /// What stands in a structure at a place: its members, and in the place of a variant part those of
@@ -483,6 +440,5 @@ pub fn items_of<'r, 'k, 'a>(
 {
     let structure = Structure { units, view, place };
     let mut items = Items::new(alloc);
-    push_standing(&mut items, &structure, standing)?;
-    Ok(items)
+    push_standing(&mut items, &structure, standing).and(Ok(items))
 }

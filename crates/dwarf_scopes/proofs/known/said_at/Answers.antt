@@ -11,4 +11,4 @@ returns-then-place-section-clause-said g c =
 
 pub returns-clause-said : goal.returns-clause-said
 returns-clause-said g c =
-    IfOk-weaker c.said_from_place.result _ _ (λ said is. is_said_in (g.K.ListKind.section c.args.sections.now) (g.K.ListKind.item c.args.sections.now) c.args.address c.args.place said is) c.said_from_place.ensures.said
+    IfOk-weaker c.said_from_place-said.result _ _ (λ said is. is_said_in (g.K.ListKind.section c.args.sections.now) (g.K.ListKind.item c.args.sections.now) c.args.address c.args.place said is) c.said_from_place-said.ensures.said

@@ -1,4 +1,5 @@
 use Rattle.std.proofs.Common.{◌++◌, List, sym, subst, arith}
+use Rattle.std.proofs.lemmas.Result.{on_ok_weaker}
 use Rattle.dwarf_scopes.specs.declared.levels.Level.{Level}
 use Rattle.dwarf_scopes.specs.declared.spans.Span.{Span}
 use Rattle.dwarf_scopes.specs.calls.Levels.{AreParts, AreSized}
@@ -23,4 +24,4 @@ pub returns : goal.returns
 returns c =
     let es = c.args.entries.now in
     let level : Level = record { size = c.sizes.size; parts = c.sizes.parts } in
-    sizes_all es c.push-2.new.self (sizes_more es c.sizes.levels c.push-2.new.self level c.sizes.invariant.1.0 c.in_ok-push-2.ensures.ok c.sizes.invariant.1.1)
+    on_ok_weaker c.push-2.result (λ pushed. sizes_all es c.push-2.new.self (sizes_more es c.sizes.levels c.push-2.new.self level c.sizes.invariant.1.0 pushed c.sizes.invariant.1.1)) c.push-2.ensures.ok

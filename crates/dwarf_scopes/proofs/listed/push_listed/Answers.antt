@@ -1,4 +1,5 @@
 use Rattle.std.proofs.Common.{sym, ◌∙◌}
+use Rattle.std.proofs.lemmas.Result.{on_ok_weaker}
 use Rattle.dwarf_scopes.proofs.ListedLaws.{without_list, with_seen, with_new, seen_kept}
 use Rattle.dwarf_scopes.proofs.listed.push_listed.Goals as goal
 
@@ -11,12 +12,16 @@ returns-then-is_seen-clause-so_far c =
     with_seen c.args.entries.now c.args.index c.index-entries-index.result c.in-Some.place c.args.numbers.now c.requires.there c.index-entries-index.is (sym c.list_of.ensures ∙ c.in-Some.is)
     (c.is_seen.ensures c.args.entries.now c.args.numbers.now c.requires.seen c.if-is_seen.true) c.requires.so_far
 
-pub returns-clause-so_far : goal.returns-clause-so_far
-returns-clause-so_far c =
-    with_new c.args.entries.now c.args.index c.index-entries-index.result c.in-Some.place c.args.numbers.now c.push.new.self c.requires.there c.index-entries-index.is (sym c.list_of.ensures ∙ c.in-Some.is)
-    c.in_ok-push.ensures.ok c.requires.so_far
+pub returns-in-Ok-clause-so_far : goal.returns-in-Ok-clause-so_far
+returns-in-Ok-clause-so_far c =
+    on_ok_weaker c.push.result
+    (λ pushed. with_new c.args.entries.now c.args.index c.index-entries-index.result c.in-Some.place c.args.numbers.now c.push.new.self c.requires.there c.index-entries-index.is (sym c.list_of.ensures ∙ c.in-Some.is)
+    pushed c.requires.so_far)
+    c.push.ensures.ok
 
-pub returns-clause-seen : goal.returns-clause-seen
-returns-clause-seen c =
-    seen_kept c.args.entries.now c.args.index c.index-entries-index.result c.in-Some.place c.args.numbers.now c.push.new.self c.args.seen.now c.insert.new.self c.number_of-number.result c.requires.there
-    c.index-entries-index.is (sym c.list_of.ensures ∙ c.in-Some.is) c.in_ok-push.ensures.ok c.in_ok-insert.ensures.updates.0 c.requires.seen
+pub returns-in-Ok-clause-seen : goal.returns-in-Ok-clause-seen
+returns-in-Ok-clause-seen c =
+    on_ok_weaker c.push.result
+    (λ pushed. seen_kept c.args.entries.now c.args.index c.index-entries-index.result c.in-Some.place c.args.numbers.now c.push.new.self c.args.seen.now c.insert.new.self c.number_of-number.result c.requires.there
+    c.index-entries-index.is (sym c.list_of.ensures ∙ c.in-Some.is) pushed c.in-Ok.ensures.updates.0 c.requires.seen)
+    c.push.ensures.ok

@@ -8,12 +8,12 @@ pub loop-answer-preserved : goal.loop-answer-preserved
 loop-answer-preserved c = record {
   right = c.first_in.ensures.right;
   so_far = c.loop-answer.invariant.so_far
-      ∙ part_lacks (is_subprogram_at c.args.sections.now c.args.address) of_unit c.args.units.now c.loop-answer.answer-index c.answer-item.result (omega arith) c.answer-item.is (sym c.in_ok-found.ensures.is ∙ c.in_default.is);
+      ∙ part_lacks (is_subprogram_at c.args.sections.now c.args.address) of_unit c.args.units.now c.loop-answer.answer-index c.answer-item.result (omega arith) c.answer-item.is (sym c.in-Ok-None.ensures.is ∙ c.in-Ok-None.field-0-is);
 }
 
-pub returns-in-Some : goal.returns-in-Some
-returns-in-Some c = sym (c.loop-answer.invariant.so_far
-    ∙ part_holds (is_subprogram_at c.args.sections.now c.args.address) of_unit c.args.units.now c.loop-answer.answer-index c.answer-item.result c.in-Some.subprogram (omega arith) c.answer-item.is (sym c.in_ok-found.ensures.is ∙ c.in-Some.is))
+pub returns-in-Ok-Some : goal.returns-in-Ok-Some
+returns-in-Ok-Some c = sym (c.loop-answer.invariant.so_far
+    ∙ part_holds (is_subprogram_at c.args.sections.now c.args.address) of_unit c.args.units.now c.loop-answer.answer-index c.answer-item.result c.in-Ok-Some.subprogram (omega arith) c.answer-item.is (sym c.in-Ok-Some.ensures.is ∙ c.in-Ok-Some.field-0-is))
 
 pub loop-answer-init : goal.loop-answer-init
 loop-answer-init c = record { right = c.requires; so_far = refl }

@@ -44,15 +44,15 @@ inlined_by-requires-clause-stand c =
     subst (λ (x : Standing). StandFrom (c.args.number + 1) inside x.unit.entries) (sym (c.copied.ensures ∙ c.new-subprogram.ensures))
     (subst (λ (es : List Entry). StandFrom (c.args.number + 1) inside es) c.as_slice-entries.ensures stand)
 
-pub returns-clause-subprogram : goal.returns-clause-subprogram
-returns-clause-subprogram c =
+pub returns-in-Ok-clause-subprogram : goal.returns-in-Ok-clause-subprogram
+returns-in-Ok-clause-subprogram c =
     let all = c.as_slice-entries.result.now in
     let lt : c.args.number < length all = omega (arith, c.if-number-entries.false) in
     stands_there c.args.unit.now all c.args.number c.index-entries-number.result _ c.entries_behind-behind.result.now c.new-subprogram.result c.as_slice-entries.ensures lt c.index-entries-number.is c.entries_behind-behind.ensures c.new-subprogram.ensures
 
-pub returns-clause-inlined : goal.returns-clause-inlined
-returns-clause-inlined c =
+pub returns-in-Ok-clause-inlined : goal.returns-in-Ok-clause-inlined
+returns-in-Ok-clause-inlined c =
     let all = c.as_slice-entries.result.now in
     let lt : c.args.number < length all = omega (arith, c.if-number-entries.false) in
     let there = stands_there c.args.unit.now all c.args.number c.index-entries-number.result _ c.entries_behind-behind.result.now c.new-subprogram.result c.as_slice-entries.ensures lt c.index-entries-number.is c.entries_behind-behind.ensures c.new-subprogram.ensures in
-    c.in_ok-inlined.ensures ∙ ap (λ (x : Standing). inlined_from c.args.sections.now c.args.address (Some x)) c.copied.ensures ∙ ap (inlined_from c.args.sections.now c.args.address) there
+    c.in-Ok.ensures ∙ ap (λ (x : Standing). inlined_from c.args.sections.now c.args.address (Some x)) c.copied.ensures ∙ ap (inlined_from c.args.sections.now c.args.address) there

@@ -1,10 +1,6 @@
-use Rattle.std.proofs.Common.{◌≡◌, ltb, true, length, Option, Some, sym, ap, ◌∙◌, arith}
+use Rattle.std.proofs.Common.{◌≡◌, ltb, true, length, Some, sym, ap, ◌∙◌, arith}
 use Rattle.std.specs.Prelude.{slice_get}
 use Rattle.std.proofs.lemmas.Option.{slice_get-get_or}
-use Rattle.std.proofs.lemmas.Result.{IfOk-weaker}
-use Rattle.dwarf_info.specs.declared.entry.UnitAnswer.{UnitAnswer}
-use Rattle.dwarf_scopes.specs.calls.Tabled.{placed_in}
-use Rattle.dwarf_scopes.specs.inner.Picks.{inlined_from}
 use Rattle.dwarf_scopes.proofs.LevelLaws.{level_at}
 use Rattle.dwarf_scopes.proofs.table.found_there.Goals as goal
 
@@ -16,25 +12,3 @@ found_in_unit-requires c =
     let unit : slice_get c.args.units.now n ≡ Some c.in-Some.answer.now = slice_get-get_or c.args.units.now n c.in-Some.answer.now (grind (arith, in_units)) ∙ ap Some (sym c.in-Some.ensures.lookup.1) in
     let level : slice_get c.args.levels.now n ≡ Some c.in-Some-get.levels.now = slice_get-get_or c.args.levels.now n c.in-Some-get.levels.now (grind (arith, in_levels)) ∙ ap Some (sym c.in-Some-get.ensures.lookup.1) in
     level_at n c.args.levels.now c.args.units.now c.in-Some-get.levels.now c.in-Some.answer.now c.requires level unit
-
-pub returns-in-Some-get-clause-subprogram : goal.returns-in-Some-get-clause-subprogram
-returns-in-Some-get-clause-subprogram c =
-    let n = c.args.place.unit in
-    let in_units : ltb n (length c.args.units.now) ≡ true = sym c.in-Some.ensures.lookup.0 in
-    let unit : slice_get c.args.units.now n ≡ Some c.in-Some.answer.now = slice_get-get_or c.args.units.now n c.in-Some.answer.now (grind (arith, in_units)) ∙ ap Some (sym c.in-Some.ensures.lookup.1) in
-    IfOk-weaker c.found_in_unit.result _ _ (λ x is. is ∙ ap (λ (o : Option UnitAnswer). placed_in o c.args.place.entry) (sym unit)) c.found_in_unit.ensures.subprogram
-
-pub returns-in-Some-get-clause-inlined : goal.returns-in-Some-get-clause-inlined
-returns-in-Some-get-clause-inlined c =
-    let n = c.args.place.unit in
-    let in_units : ltb n (length c.args.units.now) ≡ true = sym c.in-Some.ensures.lookup.0 in
-    let unit : slice_get c.args.units.now n ≡ Some c.in-Some.answer.now = slice_get-get_or c.args.units.now n c.in-Some.answer.now (grind (arith, in_units)) ∙ ap Some (sym c.in-Some.ensures.lookup.1) in
-    IfOk-weaker c.found_in_unit.result _ _ (λ x is. is ∙ ap (λ (o : Option UnitAnswer). inlined_from c.args.sections.now c.args.address (placed_in o c.args.place.entry)) (sym unit))
-    c.found_in_unit.ensures.inlined
-
-pub returns-in-None-clause-subprogram : goal.returns-in-None-clause-subprogram
-returns-in-None-clause-subprogram c = IfOk-weaker c.of.result _ _ (λ x is. is ∙ c.placed.ensures) c.of.ensures.subprogram
-
-pub returns-in-None-clause-inlined : goal.returns-in-None-clause-inlined
-returns-in-None-clause-inlined c =
-    IfOk-weaker c.of.result _ _ (λ x is. is ∙ ap (inlined_from c.args.sections.now c.args.address) c.placed.ensures) c.of.ensures.inlined

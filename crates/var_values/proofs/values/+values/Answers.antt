@@ -1,7 +1,8 @@
 use Rattle.std.proofs.Common.{◌≡◌, ℕ, ◌<◌, ◌≤◌, ◌-◌, ◌++◌, List, Option, None, Some, append_assoc, length, subst, sym, ap, ◌∙◌, arith}
-use Rattle.std.specs.Prelude.{IfOk}
+use Rattle.std.specs.Prelude.{IfOk, unwrap_or}
 use Rattle.dwarf_types.specs.Counts.{counts}
 use Rattle.dwarf_types.specs.Types.{class_at, type_of}
+use Rattle.dwarf_types.specs.Sizes.{type_size}
 use Rattle.dwarf_types.specs.declared.behind.Typed.{Typed}
 use Rattle.dwarf_types.specs.declared.class.Class.TheVariants as classes
 use Rattle.var_values.specs.declared.mark.Mark.TheVariants.{TypeTooDeep, UnsupportedType}
@@ -17,9 +18,9 @@ use Rattle.var_values.proofs.LevelLaws.{counted}
 use Rattle.var_values.proofs.ScalarLaws.{suits_scalar, suits_narrow}
 use Rattle.var_values.proofs.values.+values.Goals as goal
 
-pub push_within-returns-in-Nothing : goal.push_within-returns-in-Nothing
-push_within-returns-in-Nothing t c =
-    subst (λ (x : Typed). Tells (value_text c.args.context.now.units.now c.args.context.now.view.now.memory c.args.most x c.args.place.now) (Some UnsupportedType) c.args.text.now c.args.text.now) (sym c.in-Nothing.is)
+pub push_within-returns-in_default : goal.push_within-returns-in_default
+push_within-returns-in_default t c =
+    subst (λ (x : Typed). Tells (value_text c.args.context.now.units.now c.args.context.now.view.now.memory c.args.most x c.args.place.now) (Some UnsupportedType) c.args.text.now c.args.text.now) (sym c.in_default.is)
     (nothing_tells c.args.context.now.units.now c.args.context.now.view.now.memory c.args.most c.args.place.now c.args.text.now)
 
 pub push_within-returns-then-most-eq0 : goal.push_within-returns-then-most-eq0
@@ -79,7 +80,8 @@ pub push_array-push_known-requires : goal.push_array-push_known-requires
 push_array-push_known-requires t c =
     let units = c.args.context.now.units.now in
     let s = c.args.standing.now in
-    let size = size_known c.in-Some.array.now (counts s) c.args.skipped (inner_size units s) c.in-Some.ensures.counts (c.in-Some.ensures.element ∙ c.inner_size-size.ensures) (counted units s c.args.skipped c.requires.class c.requires.size) in
+    let sized = c.unwrap_or-size.ensures ∙ ap (λ (o : Option ℕ). unwrap_or o 0) (c.type_size.ensures ∙ ap (type_size units) c.inner_type-element.ensures) in
+    let size = size_known c.in-Some.array.now (counts s) c.args.skipped (inner_size units s) c.in-Some.ensures.counts (c.in-Some.ensures.element ∙ sized) (counted units s c.args.skipped c.requires.class c.requires.size) in
     (omega arith, (c.requires.near, size))
 
 pub push_array-returns-in-Some : goal.push_array-returns-in-Some
@@ -87,17 +89,19 @@ push_array-returns-in-Some t c =
     let units = c.args.context.now.units.now in
     let m = c.args.context.now.view.now.memory in
     let s = c.args.standing.now in
+    let sized = c.unwrap_or-size.ensures ∙ ap (λ (o : Option ℕ). unwrap_or o 0) (c.type_size.ensures ∙ ap (type_size units) c.inner_type-element.ensures) in
     let p = c.args.place.now in
     subst (λ (v : Text). IfOk c.push_known.result (λ mark. Tells v mark c.args.text.now c.push_known.new.text))
     (array_known (value_text units m c.args.further) c.inner_type-element.result (type_of units s.entry.attributes) c.in-Some.array.now (counts s) c.args.skipped (inner_size units s) p
-    c.inner_type-element.ensures c.in-Some.ensures.counts (c.in-Some.ensures.element ∙ c.inner_size-size.ensures))
+    c.inner_type-element.ensures c.in-Some.ensures.counts (c.in-Some.ensures.element ∙ sized))
     c.push_known.ensures
 
-pub push_array-push_known-requires-2 : goal.push_array-push_known-requires-2
-push_array-push_known-requires-2 t c =
+pub push_array-push_known-pushed-requires : goal.push_array-push_known-pushed-requires
+push_array-push_known-pushed-requires t c =
     let units = c.args.context.now.units.now in
     let s = c.args.standing.now in
-    let size = size_known c.in_ok-array.array (counts s) c.args.skipped (inner_size units s) (c.in_ok-array.ensures.counts ∙ ap counts c.standing.ensures) (c.in_ok-array.ensures.element ∙ c.inner_size-size.ensures) (counted units s c.args.skipped c.requires.class c.requires.size) in
+    let sized = c.unwrap_or-size.ensures ∙ ap (λ (o : Option ℕ). unwrap_or o 0) (c.type_size.ensures ∙ ap (type_size units) c.inner_type-element.ensures) in
+    let size = size_known c.in_ok-array.array (counts s) c.args.skipped (inner_size units s) (c.in_ok-array.ensures.counts ∙ ap counts c.standing.ensures) (c.in_ok-array.ensures.element ∙ sized) (counted units s c.args.skipped c.requires.class c.requires.size) in
     (omega arith, (c.requires.near, size))
 
 pub push_array-returns : goal.push_array-returns
@@ -105,11 +109,12 @@ push_array-returns t c =
     let units = c.args.context.now.units.now in
     let m = c.args.context.now.view.now.memory in
     let s = c.args.standing.now in
+    let sized = c.unwrap_or-size.ensures ∙ ap (λ (o : Option ℕ). unwrap_or o 0) (c.type_size.ensures ∙ ap (type_size units) c.inner_type-element.ensures) in
     let p = c.args.place.now in
-    subst (λ (v : Text). IfOk c.push_known-2.result (λ mark. Tells v mark c.args.text.now c.push_known-2.new.text))
+    subst (λ (v : Text). IfOk c.push_known-pushed.result (λ mark. Tells v mark c.args.text.now c.push_known-pushed.new.text))
     (array_known (value_text units m c.args.further) c.inner_type-element.result (type_of units s.entry.attributes) c.in_ok-array.array (counts s) c.args.skipped (inner_size units s) p
-    c.inner_type-element.ensures (c.in_ok-array.ensures.counts ∙ ap counts c.standing.ensures) (c.in_ok-array.ensures.element ∙ c.inner_size-size.ensures))
-    c.push_known-2.ensures
+    c.inner_type-element.ensures (c.in_ok-array.ensures.counts ∙ ap counts c.standing.ensures) (c.in_ok-array.ensures.element ∙ sized))
+    c.push_known-pushed.ensures
 
 pub push_content-push_scalar-requires-clause-scalar : goal.push_content-push_scalar-requires-clause-scalar
 push_content-push_scalar-requires-clause-scalar t c =
@@ -119,21 +124,23 @@ push_content-push_scalar-requires-clause-scalar t c =
 pub push_content-push_scalar-requires-clause-narrow : goal.push_content-push_scalar-requires-clause-narrow
 push_content-push_scalar-requires-clause-narrow t c = suits_narrow c.args.standing.now c.args.place.now c.args.size c.requires.suits
 
-pub push_passed-returns-in-Some : goal.push_passed-returns-in-Some
-push_passed-returns-in-Some t c =
+pub push_within-returns : goal.push_within-returns
+push_within-returns t c =
     let units = c.args.context.now.units.now in
     let m = c.args.context.now.view.now.memory in
     let p = c.args.place.now in
-    subst (λ (v : Text). IfOk c.push_sized.result (λ mark. Tells v mark c.args.text.now c.push_sized.new.text))
-    (sym (sized_is units m c.args.most c.args.typed.now c.args.standing.now c.args.skipped p (Some c.in-Some.size) c.requires.typed c.requires.some c.requires.class (sym c.in-Some.is ∙ c.type_size.ensures))) c.push_sized.ensures
+    let some : 0 < c.args.most = omega arith in
+    let is = sized_is units m c.args.most c.args.typed.now c.in-At.standing c.in-At.skipped p (Some c.in-Some.size) c.in-At.is some (λ e. c.in_default-class_at.not-Passed (c.class_at.ensures ∙ e)) (sym c.in-Some.is ∙ c.type_size.ensures) in
+    subst (λ (v : Text). IfOk c.push_sized.result (λ mark. Tells v mark c.args.text.now c.push_sized.new.text)) (sym is) c.push_sized.ensures
 
-pub push_passed-returns-in-None : goal.push_passed-returns-in-None
-push_passed-returns-in-None t c =
+pub push_within-returns-in_default-type_size : goal.push_within-returns-in_default-type_size
+push_within-returns-in_default-type_size t c =
     let units = c.args.context.now.units.now in
     let m = c.args.context.now.view.now.memory in
     let p = c.args.place.now in
+    let some : 0 < c.args.most = omega arith in
     mark_tells (value_text units m c.args.most c.args.typed.now p) UnsupportedType c.args.text.now
-    (sized_is units m c.args.most c.args.typed.now c.args.standing.now c.args.skipped p None c.requires.typed c.requires.some c.requires.class (sym c.in-None.is ∙ c.type_size.ensures))
+    (sized_is units m c.args.most c.args.typed.now c.in-At.standing c.in-At.skipped p None c.in-At.is some (λ e. c.in_default-class_at.not-Passed (c.class_at.ensures ∙ e)) (sym c.in_default-type_size.is ∙ c.type_size.ensures))
 
 pub push_members-loop-item-preserved : goal.push_members-loop-item-preserved
 push_members-loop-item-preserved t c =

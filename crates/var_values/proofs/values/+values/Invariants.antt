@@ -8,9 +8,6 @@ use Rattle.var_values.proofs.values.+values.Given as goal
 abbrev pub decreases-push_within : goal.decreases-push_within
 decreases-push_within l = 16 * l.most + 1
 
-abbrev pub decreases-push_passed : goal.decreases-push_passed
-decreases-push_passed l = 16 * l.most
-
 abbrev pub decreases-push_sized : goal.decreases-push_sized
 decreases-push_sized l = 16 * l.further + 9
 
@@ -37,9 +34,6 @@ decreases-push_member l = 16 * l.further + 5
 
 abbrev pub decreases-push_member_value : goal.decreases-push_member_value
 decreases-push_member_value l = 16 * l.further + 4
-
-abbrev pub decreases-push_part_value : goal.decreases-push_part_value
-decreases-push_part_value l = 16 * l.further + 3
 
 abbrev pub decreases-push_in_place : goal.decreases-push_in_place
 decreases-push_in_place l = 16 * l.most + 2
