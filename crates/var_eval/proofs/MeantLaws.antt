@@ -142,15 +142,19 @@ owns_chosen s units address name all = by (subprogram_at s units address) refl (
 
 -- ---- the table
 
-pub table_meant : (s : SectionBytes5) (units : List UnitAnswer) (address : ℕ) (t : NameTable) (subprogram : Option Standing) (x : Standing) (u : UnitTree) → subprogram ≡ subprogram_at s units address
-    → subprogram ≡ Some x → u ≡ x.unit → AllAreAt units units
+pub table_meant : (s : SectionBytes5) (units us : List UnitAnswer) (address : ℕ) (t : NameTable) (subprogram : Option Standing) (x : Standing) (u : UnitTree) → subprogram ≡ subprogram_at s units address
+    → subprogram ≡ Some x → u ≡ x.unit → us ≡ units → AllAreAt us us
     → ((q : List ℕ) → length q ≤ longest_name → look t q ≡ offset_found (meant_in s units address subprogram u q)) → IsTable s units address t
-table_meant s units address t subprogram x u here some unit all told = (
-  all,
+table_meant s units us address t subprogram x u here some unit same all told = (
+  subst (λ (us : List UnitAnswer). AllAreAt us us) same all,
   λ q short. told q short ∙ ap (λ (o : Option Standing). offset_found (meant_in s units address o u q)) some
       ∙ ap (λ (v : UnitTree). offset_found (meant_in s units address (Some x) v q)) unit
       ∙ ap offset_found (sym (meant_is s units address q x (sym here ∙ some))),
 )
+
+-- a table that was made is kept with its address
+pub table_kept : (s : SectionBytes5) (units : List UnitAnswer) (address n : ℕ) (made : Option NameTable) → n ≡ address → IfSome made (IsTable s units address) → IfSome made (IsTable s units n)
+table_kept s units address n made here is = subst (λ (k : ℕ). IfSome made (IsTable s units k)) (sym here) is
 
 same_found : (units : List UnitAnswer) (c : Option Standing) (l : Option ℕ) → l ≡ offset_found c → IfSome c (Own units) → AreSame (option_and_then (standing_at units) l) c
 same_found units None l is own = ap (λ (o : Option ℕ). option_map bare (option_and_then (standing_at units) o)) is

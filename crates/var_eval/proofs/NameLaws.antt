@@ -16,7 +16,7 @@ use Rattle.dwarf_entries.specs.Standing.{Standing}
 use Rattle.dwarf_entries.specs.Origins.{name_or_empty}
 use Rattle.var_eval.specs.declared.known_names.NameTable.{NameTable}
 use Rattle.dwarf_scopes.specs.Scopes.{scopes_from, variables_of}
-use Rattle.dwarf_scopes.proofs.Filters.{next_part}
+use Rattle.dwarf_scopes.proofs.Filters.{next_part, part_holds, part_lacks}
 use Rattle.var_eval.specs.Chosen.{is_named, unit_variable, global_entries, is_global, globals, first_global, beyond_scopes}
 use Rattle.var_eval.specs.calls.Names.{look, offset_found}
 use Rattle.var_eval.specs.inner.Named.{longest_name}
@@ -85,6 +85,15 @@ unit_added units us first before after whole i u lt is adds still =
     turn first before after whole (λ q. first_global units q (drop i us)) (λ q. first_global units q (drop (i + 1) us)) (λ q. find (is_global units q) (globals u))
     (λ q. ap (λ (xs : List UnitAnswer). find (is_global units q) (flat_map globals xs)) (next_part us i u lt is) ∙ find-append (is_global units q) (globals u) (flat_map globals (drop (i + 1) us)))
     adds still
+
+-- the first of them is of a unit, or of those behind it
+pub global_found : (units us : List UnitAnswer) (name : List ℕ) (i : ℕ) (u : UnitAnswer) (x : Standing) (total : Option Standing) → i < length us → u ≡ get_or us i u
+    → Some x ≡ find (is_global units name) (globals u) → total ≡ first_global units name (drop i us) → Some x ≡ total
+global_found units us name i u x total lt is found so_far = sym (so_far ∙ part_holds (is_global units name) globals us i u x lt is (sym found))
+
+pub global_missed : (units us : List UnitAnswer) (name : List ℕ) (i : ℕ) (u : UnitAnswer) (total : Option Standing) → i < length us → u ≡ get_or us i u
+    → None ≡ find (is_global units name) (globals u) → total ≡ first_global units name (drop i us) → total ≡ first_global units name (drop (i + 1) us)
+global_missed units us name i u total lt is none so_far = so_far ∙ part_lacks (is_global units name) globals us i u lt is (sym none)
 
 -- the visible ones, the unit's own, those in its namespaces, and those of all units
 pub meant_told : (s : SectionBytes5) (units : List UnitAnswer) (address : ℕ) (subprogram : Option Standing) (u : UnitTree) (visible : List Standing) (none first second third all : NameTable)

@@ -11,7 +11,7 @@ use Rattle.std.proofs.lemmas.Slice.Eq.{bytes_eq-Decides}
 use Rattle.dwarf_info.specs.declared.entry.Entry.{Entry}
 use Rattle.dwarf_info.specs.declared.entry.Unit.{Unit as UnitTree}
 use Rattle.dwarf_info.specs.declared.entry.UnitAnswer.{UnitAnswer}
-use Rattle.dwarf_entries.specs.Standing.{Standing, standing_at, standing_in, stands, entries_inside, inside, is_child}
+use Rattle.dwarf_entries.specs.Standing.{Standing, standing_at, standing_in, stands, entries_inside, is_child}
 use Rattle.dwarf_entries.specs.Origins.{name_or_empty, longest_chain}
 use Rattle.dwarf_entries.specs.Tags.{tag_member}
 use Rattle.dwarf_types.specs.Structures.{tag_variant_part}
@@ -158,12 +158,15 @@ first_is_member units s name o none is memory place past =
     ∙ ap (λ (p : Option Part). ok_or p UnsupportedType)
     (member_among units memory place past content s.entry.depth name s.unit (entries_inside s) none ∙ ap (option_and_then (at_member units place past)) (sym is))
 
-pub named_here : (units : List UnitAnswer) (s : Standing) (e : Entry) (es : List Entry) (m : MemberNames) → e ≡ s.entry → es ≡ entries_inside s
-    → find (is_child s.entry.depth tag_variant_part) (entries_inside s) ≡ None
-    → ((q : List ℕ) → length q ≤ longest_name → first_by m q ≡ find (is_called units q) (filter (is_child e.depth tag_member) es)) → AreNamed units s m
-named_here units s e es m is are none first name short =
+-- all that were added to an empty table
+pub named_here : (units : List UnitAnswer) (s : Standing) (e : Entry) (es : List Entry) (old m : MemberNames) → e ≡ s.entry → es ≡ entries_inside s
+    → find (is_child s.entry.depth tag_variant_part) (entries_inside s) ≡ None → old.first.entries ≡ []
+    → ((q : List ℕ) → length q ≤ longest_name → first_by m q ≡ option_or (first_by old q) (find (is_called units q) (filter (is_child e.depth tag_member) es))) → AreNamed units s m
+named_here units s e es old m is are none empty first name short =
     first_is_member units s name (first_by m name) none
-    (first name short ∙ ap (λ (x : Entry). find (is_called units name) (filter (is_child x.depth tag_member) es)) is
+    (first name short
+    ∙ ap (λ (o : Option Entry). option_or o (find (is_called units name) (filter (is_child e.depth tag_member) es))) (ap (λ es. lookup (is_at (λ k. slice_cmp nat_cmp name k.now)) es) empty)
+    ∙ ap (λ (x : Entry). find (is_called units name) (filter (is_child x.depth tag_member) es)) is
     ∙ ap (λ (xs : List Entry). find (is_called units name) (filter (is_child s.entry.depth tag_member) xs)) are)
 
 -- ---- what is kept

@@ -1,6 +1,6 @@
 -- Counts of arrays behind the first of them.
 use Rattle.std.proofs.Common.{◌≡◌, ℕ, zero, suc, ◌+◌, ◌-◌, ◌≤◌, Bool, true, false, List, [], ◌∷◌, length, drop, Option, Some, None, refl, sym, ap, ◌∙◌, add-one, length-drop, arith}
-use Rattle.std.specs.Prelude.{map, filter, find, slice_get, nat_lt, if◌then◌else◌}
+use Rattle.std.specs.Prelude.{map, filter, find, slice_get, nat_lt, nat_le, if◌then◌else◌}
 use Rattle.std.specs.Option.{is_some}
 use Rattle.std.proofs.lemmas.Bool.Decides.{nat_tests}
 use Rattle.std.proofs.lemmas.List.{drop-map, length-map}
@@ -122,11 +122,12 @@ renamed s rest inside depth k d i are =
     ap (λ (n : ℕ). filter (is_child n tag_subrange) rest) (sym d) ∙ are ∙ ap (λ (n : ℕ). drop k (filter (is_child n tag_subrange) inside)) d
     ∙ ap (λ (es : List Entry). drop k (filter (is_child s.entry.depth tag_subrange) es)) i
 
-pub rows_told : (s : Standing) (rest inside : List Entry) (depth k : ℕ) (found : Bool) → depth ≡ s.entry.depth → inside ≡ entries_inside s
-    → filter (is_child depth tag_subrange) rest ≡ drop (k + 1) (filter (is_child depth tag_subrange) inside) → found ≡ is_some (find (is_child depth tag_subrange) rest)
+pub rows_told : (s : Standing) (e : Entry) (rest inside : List Entry) (k : ℕ) (found : Bool) → e ≡ s.entry → inside ≡ entries_inside s
+    → filter (is_child e.depth tag_subrange) rest ≡ drop (k + 1) (filter (is_child e.depth tag_subrange) inside) → found ≡ is_some (find (is_child e.depth tag_subrange) rest)
     → found ≡ nat_lt (k + 1) (length (counts s))
-rows_told s rest inside depth k found d i are is =
-    is ∙ ap (λ (n : ℕ). is_some (find (is_child n tag_subrange) rest)) d ∙ rows_behind s rest k (renamed s rest inside depth (k + 1) d i are)
+rows_told s e rest inside k found same i are is =
+    let d : e.depth ≡ s.entry.depth = ap (λ (x : Entry). x.depth) same in
+    is ∙ ap (λ (n : ℕ). is_some (find (is_child n tag_subrange) rest)) d ∙ rows_behind s rest k (renamed s rest inside e.depth (k + 1) d i are)
 
 pub none_told : (s : Standing) (inside : List Entry) (k : ℕ) → inside ≡ entries_inside s → length inside ≤ k → nat_lt k (length inside) ≡ nat_lt (k + 1) (length (counts s))
 none_told s inside k i past =
@@ -134,17 +135,39 @@ none_told s inside k i past =
     let none : nat_lt k (length inside) ≡ false = grind (arith, nat_tests) in
     none ∙ sym (no_rows_behind s k here)
 
-pub past_told : (s : Standing) (rest inside : List Entry) (depth k n : ℕ) (found : Option Entry) → depth ≡ s.entry.depth → inside ≡ entries_inside s
+past_told : (s : Standing) (rest inside : List Entry) (depth k n : ℕ) (found : Option Entry) → depth ≡ s.entry.depth → inside ≡ entries_inside s
     → filter (is_child depth tag_subrange) rest ≡ drop k (filter (is_child depth tag_subrange) inside) → found ≡ find (is_child depth tag_subrange) rest
     → past_by subrange_count found n ≡ is_past (drop k (counts s)) n
 past_told s rest inside depth k n found d i are is =
     ap (λ (e : Option Entry). past_by subrange_count e n) (is ∙ ap (λ (m : ℕ). find (is_child m tag_subrange) rest) d) ∙ sym (past_behind s rest k n (renamed s rest inside depth k d i are))
 
+-- where none is left, and where one is that has a count or none
+pub past_none : (s : Standing) (e : Entry) (rest inside : List Entry) (k n : ℕ) → e ≡ s.entry → inside ≡ entries_inside s
+    → filter (is_child e.depth tag_subrange) rest ≡ drop k (filter (is_child e.depth tag_subrange) inside) → None ≡ find (is_child e.depth tag_subrange) rest → false ≡ is_past (drop k (counts s)) n
+past_none s e rest inside k n same i are is = past_told s rest inside e.depth k n None (ap (λ (x : Entry). x.depth) same) i are is
+
+pub past_counted : (s : Standing) (e : Entry) (rest inside : List Entry) (k n : ℕ) (sub : Entry) (count m : ℕ) → e ≡ s.entry → inside ≡ entries_inside s
+    → filter (is_child e.depth tag_subrange) rest ≡ drop k (filter (is_child e.depth tag_subrange) inside) → Some sub ≡ find (is_child e.depth tag_subrange) rest → Some count ≡ subrange_count sub → m ≡ n
+    → nat_le count m ≡ is_past (drop k (counts s)) n
+past_counted s e rest inside k n sub count m same i are is counted by =
+    ap (λ (x : ℕ). nat_le count x) by ∙ ap (λ (c : Option ℕ). is_past (c ∷ []) n) counted ∙ past_told s rest inside e.depth k n (Some sub) (ap (λ (x : Entry). x.depth) same) i are is
+
+pub past_uncounted : (s : Standing) (e : Entry) (rest inside : List Entry) (k n : ℕ) (sub : Entry) → e ≡ s.entry → inside ≡ entries_inside s
+    → filter (is_child e.depth tag_subrange) rest ≡ drop k (filter (is_child e.depth tag_subrange) inside) → Some sub ≡ find (is_child e.depth tag_subrange) rest → None ≡ subrange_count sub
+    → false ≡ is_past (drop k (counts s)) n
+past_uncounted s e rest inside k n sub same i are is none =
+    ap (λ (c : Option ℕ). is_past (c ∷ []) n) none ∙ past_told s rest inside e.depth k n (Some sub) (ap (λ (x : Entry). x.depth) same) i are is
+
 -- ---- what is known
 
-pub past_known : (cs : List (Option ℕ)) (k n : ℕ) → is_past_known (slice_get cs k) n ≡ is_past (drop k cs) n
+past_known : (cs : List (Option ℕ)) (k n : ℕ) → is_past_known (slice_get cs k) n ≡ is_past (drop k cs) n
 past_known [] zero n = refl
 past_known [] (suc k) n = refl
 past_known (None ∷ cs) zero n = refl
 past_known (Some c ∷ cs) zero n = refl
 past_known (c ∷ cs) (suc k) n = past_known cs k n
+
+pub past_in_rows : (s : Standing) (cs : List (Option ℕ)) (k n : ℕ) (count : Option (Option ℕ)) (b : Bool) → b ≡ is_past_known count n → count ≡ slice_get cs k → cs ≡ counts s
+    → b ≡ is_past (drop k (counts s)) n
+past_in_rows s cs k n count b is at are =
+    is ∙ ap (λ (o : Option (Option ℕ)). is_past_known o n) at ∙ past_known cs k n ∙ ap (λ (cs : List (Option ℕ)). is_past (drop k cs) n) are

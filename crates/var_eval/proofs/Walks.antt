@@ -1,5 +1,6 @@
 -- Steps one behind another.
-use Rattle.std.proofs.Common.{◌≡◌, ℕ, suc, ◌+◌, ◌<◌, List, [], length, drop, get_or, sym, ap, ◌∙◌, subst, add-one, drop-cons}
+use Rattle.std.proofs.Common.{◌≡◌, ℕ, suc, ◌+◌, ◌<◌, ◌≤◌, List, length, drop, get_or, sym, ap, ◌∙◌, subst, add-one, drop-cons}
+use Rattle.std.proofs.lemmas.List.{drop_all}
 use Rattle.std.specs.Prelude.{Ok, Err}
 use Rattle.dwarf_info.specs.declared.entry.UnitAnswer.{UnitAnswer}
 use Rattle.var_path.specs.declared.path.Step.{Step}
@@ -27,7 +28,7 @@ pub stops : (units : List UnitAnswer) (memory : Recorded) (all : List Step) (i :
 stops units memory all i s whole part e so_far lt is told =
     subst (λ (r : Reached). Tells (Err e) r) (sym (so_far ∙ walk_on units memory all i s part lt is)) (stopped e (step units memory part s) (walk units memory (drop (i + 1) all)) told)
 
-pub ends : (units : List UnitAnswer) (memory : Recorded) (all : List Step) (i : ℕ) (whole part : Part) → walk units memory all whole ≡ walk units memory (drop i all) part → drop i all ≡ []
+pub ends : (units : List UnitAnswer) (memory : Recorded) (all : List Step) (i : ℕ) (whole part : Part) → walk units memory all whole ≡ walk units memory (drop i all) part → length all ≤ i
     → walk units memory all whole ≡ Ok part
 unfolding walk
-ends units memory all i whole part so_far none = so_far ∙ ap (λ (ss : List Step). walk units memory ss part) none
+ends units memory all i whole part so_far le = so_far ∙ ap (λ (ss : List Step). walk units memory ss part) (drop_all i all le)

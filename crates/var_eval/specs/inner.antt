@@ -3,3 +3,4 @@ pub mod PathTold
 pub mod Counted
 pub mod Named
 pub mod Adding
+pub mod Sourcing

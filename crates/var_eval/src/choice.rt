@@ -191,6 +191,7 @@ fn global_of<'r, 'a>(
 }
 
 /// The first of these units, in their order.
+#[tactic(auto, using(crate::proofs::NameLaws::global_found, crate::proofs::NameLaws::global_missed))]
 fn first_global<'r, 'a>(
     units: &'r Units<'a>,
     name: &[u8],
@@ -244,7 +245,9 @@ pub fn chosen_by<'r, 'a>(
     let Some(here) = subprogram else {
         return Ok(None);
     };
-    let visible = variables_from(alloc, sections, address, subprogram)?;
+    let Ok(visible) = variables_from(alloc, sections, address, subprogram) else {
+        return Err(NoMemory);
+    };
     let mut places = Items::new(alloc);
     match last_named(units, name, &mut places, visible) {
         Some(last) => Ok(Some(last)),
@@ -263,6 +266,8 @@ pub fn chosen<'r, 'a>(
 ) -> Result<Option<Standing<'r, 'a>>, NoMemory>
     ensures { IfOk result (λ x. x ≡ definitions.chosen sections.now units.now address name.now) }
 {
-    let subprogram = subprogram_at(alloc, sections, units.as_slice(), address)?;
+    let Ok(subprogram) = subprogram_at(alloc, sections, units.as_slice(), address) else {
+        return Err(NoMemory);
+    };
     chosen_by(alloc, sections, units, address, &subprogram, name)
 }

@@ -38,6 +38,7 @@ pub fn first_child<'r, 'a>(entries: &'r [Entry<'a>], depth: u32, tag: u64) -> Op
 
 /// Whether an index is at or past the count of an array behind its first so many subranges, where
 /// that is known.
+#[tactic(auto, using(crate::proofs::Rows::past_none, crate::proofs::Rows::past_counted, crate::proofs::Rows::past_uncounted))]
 fn is_past(standing: &Standing<'_, '_>, skipped: usize, index: u32) -> bool
     ensures { result ≡ steps.is_past (drop skipped (counts standing.now)) index }
 {
@@ -53,6 +54,7 @@ fn is_past(standing: &Standing<'_, '_>, skipped: usize, index: u32) -> bool
 }
 
 /// Whether an array has rows behind its first so many subranges and one more.
+#[tactic(auto, using(crate::proofs::Rows::rows_told, crate::proofs::Rows::none_told))]
 fn has_rows(standing: &Standing<'_, '_>, skipped: usize) -> bool
     ensures is { result ≡ nat_lt (skipped + 1) (length (counts standing.now)) }
     ensures room { result ≡ true → skipped + 1 < 2 ^ 64 }
@@ -74,6 +76,7 @@ fn is_past_count(count: Option<Option<u128>>, index: u32) -> bool
 
 /// Whether an index is at or past the count of an array behind its first so many subranges, which
 /// are read only where they are not known yet.
+#[tactic(auto, using(crate::proofs::Rows::past_in_rows))]
 fn passes_end(standing: &TypeStanding<'_, '_, '_>, skipped: usize, index: u32) -> bool
     ensures { result ≡ steps.is_past (drop skipped (counts standing.now)) index }
 {
@@ -153,8 +156,10 @@ fn array_element<'r, 'k, 'a>(
     let Some(size) = type_size(units, &typed) else {
         return Err(DeadEnd::Marked(Mark::UnsupportedType));
     };
-    let spot = spot.further(bytes_of(index, size))?;
-    Ok(Part { typed, spot, past })
+    match spot.further(bytes_of(index, size)) {
+        Ok(spot) => Ok(Part { typed, spot, past }),
+        Err(end) => Err(end),
+    }
 }
 
 /// So many bytes behind an address, modulo 2^32.
@@ -202,7 +207,10 @@ pub fn element_step<'r, 'k, 'a>(
     ensures { Tells result (steps.element_step units.now view.now.memory index part.entry) }
 {
     let Part { typed, spot, past } = part;
-    let met = meet(units, typed, spot.place().bits)?;
+    let met = match meet(units, typed, spot.place().bits) {
+        Ok(met) => met,
+        Err(end) => return Err(end),
+    };
     match class_of(met.standing.entry().tag) {
         Class::Array => array_element(units, index, met, spot, past),
         Class::Pointing => {

@@ -58,7 +58,9 @@ impl<'s, 'u, 'k, 'w, 'v, 'a> VariableFrame<'s, 'u, 'k, 'w, 'v, 'a> {
         requires { subprogram ≡ subprogram_at sections.now types address }
         ensures { IfOk result (λ f. f ≡ frame_of sections.now types.entry address view.now left) }
     {
-        let base = base_in(alloc, sections, address, view, &subprogram)?;
+        let Ok(base) = base_in(alloc, sections, address, view, &subprogram) else {
+            return Err(NoMemory);
+        };
         Ok(VariableFrame {
             sections,
             types,

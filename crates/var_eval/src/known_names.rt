@@ -1,6 +1,7 @@
 //! What names mean at an address, kept for the next ones.
 
-ghost use Rattle.std.specs.Prelude.{◌≡◌, ◌≤◌, ℕ, List, length, find, reverse, true, IfOk, OnOk, IfSome, option_copied, option_and_then};
+ghost use Rattle.std.specs.Prelude.{◌≡◌, ◌≤◌, ℕ, List, length, find, reverse, true, IfOk, OnOk, IfSome};
+ghost use Rattle.std.specs.Prelude.{option_copied, option_and_then};
 ghost use Rattle.std.specs.Option.{option_or};
 ghost use Rattle.dwarf_info.specs.Sections.{SectionBytes5};
 ghost use Rattle.dwarf_info.specs.declared.entry.UnitAnswer.{UnitAnswer as Answer};
@@ -64,8 +65,10 @@ fn add_first<'a>(table: &mut NameTable<'a>, name: &'a [u8], at: u32) -> Result<(
     if table.offsets.contains_key(name) {
         return Ok(());
     }
-    table.offsets.insert(name, at)?;
-    Ok(())
+    match table.offsets.insert(name, at) {
+        Ok(_) => Ok(()),
+        Err(_) => Err(NoMemory),
+    }
 }
 
 /// Adds an entry behind all others, if its name is kept.
@@ -215,15 +218,25 @@ fn table_of<'r, 'a>(
     ensures { IfOk result (λ table. (q : List ℕ) → length q ≤ longest_name → look table q
         ≡ offset_found (meant_in sections.now units.now address subprogram.now unit.now q)) }
 {
-    let visible = variables_from(alloc, sections, address, subprogram)?;
+    let Ok(visible) = variables_from(alloc, sections, address, subprogram) else {
+        return Err(NoMemory);
+    };
     let mut table = NameTable {
         offsets: BTreeMap::new(alloc),
     };
-    add_visible(&mut table, units, visible)?;
-    add_owns(&mut table, units, unit)?;
-    add_globals(&mut table, units, unit)?;
-    add_all(&mut table, units, units.as_slice())?;
-    Ok(table)
+    let Ok(()) = add_visible(&mut table, units, visible) else {
+        return Err(NoMemory);
+    };
+    let Ok(()) = add_owns(&mut table, units, unit) else {
+        return Err(NoMemory);
+    };
+    let Ok(()) = add_globals(&mut table, units, unit) else {
+        return Err(NoMemory);
+    };
+    match add_all(&mut table, units, units.as_slice()) {
+        Ok(()) => Ok(table),
+        Err(NoMemory) => Err(NoMemory),
+    }
 }
 
 // ---- what is kept of the address that was asked last
@@ -246,7 +259,31 @@ fn pays(names: &mut KnownNames<'_>, address: u32) -> bool
     names.table.is_none()
 }
 
+/// The table of an address in a subprogram, where the offsets of entries ascend.
+fn new_table<'r, 'a>(
+    alloc: Global,
+    sections: &Sections5<'a>,
+    units: &'r Units<'a>,
+    address: u32,
+    subprogram: &Option<Standing<'r, 'a>>,
+) -> Result<Option<NameTable<'a>>, NoMemory>
+    requires { subprogram.now ≡ subprogram_at sections.now units.now address }
+    ensures { IfOk result (λ table. IfSome table (IsTable sections.now units.now address)) }
+{
+    let Some(here) = subprogram else {
+        return Ok(None);
+    };
+    if !ascend(units.as_slice()) {
+        return Ok(None);
+    }
+    match table_of(alloc, sections, units, address, subprogram, here.unit()) {
+        Ok(table) => Ok(Some(table)),
+        Err(NoMemory) => Err(NoMemory),
+    }
+}
+
 /// Makes the table of an address where that pays and none is there.
+#[tactic(auto, using(crate::proofs::MeantLaws::table_kept))]
 fn make_table<'r, 'a>(
     alloc: Global,
     sections: &Sections5<'a>,
@@ -262,15 +299,13 @@ fn make_table<'r, 'a>(
     if !pays(names, address) {
         return Ok(());
     }
-    let Some(here) = subprogram else {
-        return Ok(());
-    };
-    if !ascend(units.as_slice()) {
-        return Ok(());
+    match new_table(alloc, sections, units, address, subprogram) {
+        Ok(table) => {
+            names.table = table;
+            Ok(())
+        }
+        Err(NoMemory) => Err(NoMemory),
     }
-    let table = table_of(alloc, sections, units, address, subprogram, here.unit())?;
-    names.table = Some(table);
-    Ok(())
 }
 
 /// The table of an address, where it is known.
@@ -295,8 +330,10 @@ fn named<'r, 'a>(
 ) -> Option<Standing<'r, 'a>>
     ensures { result ≡ option_and_then (stands_at units.now) (look table.now name.now) }
 {
-    let at = table.offsets.get(name)?;
-    standing_at(units, *at)
+    match table.offsets.get(name) {
+        Some(at) => standing_at(units, *at),
+        None => None,
+    }
 }
 
 /// The variable that a name means, or the same entry as it stands in all of its unit.
@@ -319,7 +356,9 @@ pub fn chosen_known<'r, 'a>(
     if name.len() > LONGEST_NAME {
         return chosen_by(alloc, sections, units, address, subprogram, name);
     }
-    make_table(alloc, sections, units, address, subprogram, names)?;
+    let Ok(()) = make_table(alloc, sections, units, address, subprogram, names) else {
+        return Err(NoMemory);
+    };
     match table_at(names, address) {
         Some(table) => Ok(named(units, table, name)),
         None => chosen_by(alloc, sections, units, address, subprogram, name),

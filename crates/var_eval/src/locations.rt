@@ -6,6 +6,7 @@ ghost use Rattle.dwarf_scopes.specs.calls.Knowing.{AreFound};
 ghost use Rattle.dwarf5_info.specs.Units.{plain_of};
 ghost use Rattle.dwarf_expr.specs.FrameBase.{frame_base as base_given};
 ghost use Rattle.var_eval.specs.Locations as locations;
+ghost use Rattle.var_eval.specs.inner.Sourcing.{source_from};
 
 use crate::frame::VariableFrame;
 use crate::located::Located;
@@ -88,7 +89,9 @@ fn in_list<'a>(
         ≡ locations.located_by sections.now address unit.now (Some (Offset at))) }
     ensures right { AreFound sections.now address lists.new }
 {
-    let entry = known_location_in(sections, unit, at, address, lists)?;
+    let Ok(entry) = known_location_in(sections, unit, at, address, lists) else {
+        return Err(NoMemory);
+    };
     Ok(said_by(lists_of(sections, unit), entry))
 }
 
@@ -182,7 +185,11 @@ pub fn base_in<'r, 'a>(
         return Ok(Base::Absent);
     };
     let mut lists = no_locations(alloc);
-    let located = located(sections, address, subprogram, FRAME_BASE, &mut lists)?;
+    let located = located(sections, address, subprogram, FRAME_BASE, &mut lists);
+    drop(lists);
+    let Ok(located) = located else {
+        return Err(NoMemory);
+    };
     match located {
         Located::Expression(expr) => {
             base_meant(alloc, sections, subprogram.unit(), view, expr.as_slice())
@@ -219,34 +226,42 @@ fn is_gone(left: Option<u32>, expr: &[u8]) -> bool
     }
 }
 
-/// Where a variable comes from in a frame by its expression.
-fn source_in(frame: &VariableFrame<'_, '_, '_, '_, '_, '_>, expr: &[u8]) -> Result<Source, NoMemory>
-    ensures { IfOk result (λ source. source ≡ locations.source_in frame.now expr.now) }
+/// Where a variable comes from by its expression, in a frame that has so many operands left.
+fn source_in(
+    left: Option<u32>,
+    view: &FrameView<'_>,
+    base: Base,
+    expr: &[u8],
+) -> Result<Source, NoMemory>
+    ensures { IfOk result (λ source. source ≡ source_from left view.now base expr.now) }
 {
     if !is_short(expr) {
         return Err(NoMemory);
     }
-    if is_gone(frame.left(), expr) {
+    if is_gone(left, expr) {
         return Ok(Source::Lost(Mark::OptimisedOut));
     }
-    Ok(source_meant(place_meant(expr, frame.view(), frame.base())))
+    Ok(source_meant(place_meant(expr, view, base)))
 }
 
-/// Where a variable of a unit comes from in a frame by its expression.
+/// Where a variable of a unit comes from by its expression, in a frame that has so many operands left.
 fn source_by<'a>(
     alloc: Global,
-    frame: &VariableFrame<'_, '_, '_, '_, '_, 'a>,
+    sections: &Sections5<'a>,
     unit: &Unit<'a>,
+    left: Option<u32>,
+    view: &FrameView<'_>,
+    base: Base,
     expr: &[u8],
 ) -> Result<Source, NoMemory>
-    ensures { IfOk result (λ source. source ≡ locations.source_in frame.now
-        (plain_of frame.now.sections unit.now expr.now)) }
+    ensures { IfOk result (λ source. source ≡ source_from left view.now base
+        (plain_of sections.now unit.now expr.now)) }
 {
     if unit.version == 5 {
-        let plain = plain_expr(alloc, frame.sections(), unit, expr)?;
-        source_in(frame, plain.as_slice())
+        let plain = plain_expr(alloc, sections, unit, expr)?;
+        source_in(left, view, base, plain.as_slice())
     } else {
-        source_in(frame, expr)
+        source_in(left, view, base, expr)
     }
 }
 
@@ -263,9 +278,19 @@ pub fn source_of<'r, 'a>(
         ≡ locations.variable_source frame.now variable.now) }
     ensures right { AreFound frame.now.sections frame.now.address lists.new }
 {
-    let located = located(frame.sections(), frame.address(), variable, LOCATION, lists)?;
+    let Ok(located) = located(frame.sections(), frame.address(), variable, LOCATION, lists) else {
+        return Err(NoMemory);
+    };
     match located {
-        Located::Expression(expr) => source_by(alloc, frame, variable.unit(), expr.as_slice()),
+        Located::Expression(expr) => source_by(
+            alloc,
+            frame.sections(),
+            variable.unit(),
+            frame.left(),
+            frame.view(),
+            frame.base(),
+            expr.as_slice(),
+        ),
         Located::NoEntry => Ok(Source::Lost(Mark::OptimisedOut)),
         Located::Unreadable => Ok(Source::Lost(Mark::BadExpression)),
         Located::Unsaid => Ok(constant_source(&variable.entry().attributes)),
@@ -281,5 +306,7 @@ pub fn source_alone<'r, 'a>(
     ensures { IfOk result (λ source. source ≡ locations.variable_source frame.now variable.now) }
 {
     let mut lists = no_locations(alloc);
-    source_of(alloc, frame, variable, &mut lists)
+    let source = source_of(alloc, frame, variable, &mut lists);
+    drop(lists);
+    source
 }

@@ -21,6 +21,15 @@ use pm_text::Items;
 use std::alloc::Global;
 use var_values::{Bits, Item, Mark, constant_source, is_static, items_of, part_at};
 
+/// A structure, class or union with where it stands, and whether that is behind the end of an array
+/// whose count is known.
+#[derive(Drop)]
+struct Placed<'s, 'r, 'k, 'a> {
+    standing: &'s TypeStanding<'r, 'k, 'a>,
+    spot: SourcedPlace,
+    past: bool,
+}
+
 /// Whether a member has a name, where texts differ from it at these places (see `is_same`).
 fn has_name<'r, 'a>(
     units: &'r Units<'a>,
@@ -95,12 +104,14 @@ fn placed_part<'r, 'k, 'a>(
     let Some((offset, bits)) = offset_of(&spot, member) else {
         return Err(DeadEnd::Marked(Mark::UnsupportedType));
     };
-    let spot = spot.moved(offset, bits)?;
-    Ok(Part {
-        typed: type_of(units, &member.attributes),
-        spot,
-        past,
-    })
+    match spot.moved(offset, bits) {
+        Ok(spot) => Ok(Part {
+            typed: type_of(units, &member.attributes),
+            spot,
+            past,
+        }),
+        Err(end) => Err(end),
+    }
 }
 
 /// A member of a structure that stands there, if there is one; a static one is no more than its
@@ -145,18 +156,16 @@ fn found_part<'r, 'k, 'a>(
     units: &TypedUnits<'r, 'k, 'a>,
     view: &FrameView<'_>,
     name: &[u8],
-    standing: &TypeStanding<'r, 'k, 'a>,
-    spot: SourcedPlace,
-    past: bool,
+    placed: Placed<'_, 'r, 'k, 'a>,
 ) -> Result<Part<'r, 'k, 'a>, DeadEnd>
-    ensures { Tells result
-        (steps.member_of units.now view.now.memory name.now standing.now spot past) }
+    ensures { Tells result (steps.member_of units.now view.now.memory name.now
+        placed.entry.standing.now placed.entry.spot placed.entry.past) }
 {
-    let Ok(items) = items_of(alloc, units, view, standing, &spot.place()) else {
+    let Ok(items) = items_of(alloc, units, view, placed.standing, &placed.spot.place()) else {
         return Err(DeadEnd::NoMemory);
     };
     let member = member_named(alloc, units.units(), name, items.as_slice());
-    member_part(units, member, spot, past)
+    member_part(units, member, placed.spot, placed.past)
 }
 
 /// The member of a name of a structure, class or union that stands there. It is looked for among all
@@ -169,22 +178,21 @@ fn member_of<'r, 'k, 'a>(
     known: &mut KnownMembers<'r, 'a>,
     own: bool,
     name: &[u8],
-    standing: &TypeStanding<'r, 'k, 'a>,
-    spot: SourcedPlace,
-    past: bool,
+    placed: Placed<'_, 'r, 'k, 'a>,
 ) -> Result<Part<'r, 'k, 'a>, DeadEnd>
-    requires own { own ≡ true → named.IsFound units.now standing.now }
+    requires own { own ≡ true → named.IsFound units.now placed.standing.now }
     requires known { named.AreKnown units.now known.old }
-    ensures told { Tells result
-        (steps.member_of units.now view.now.memory name.now standing.now spot past) }
+    ensures told { Tells result (steps.member_of units.now view.now.memory name.now
+        placed.entry.standing.now placed.entry.spot placed.entry.past) }
     ensures known { OnOk result (named.AreKnown units.now known.new) }
 {
-    let Ok(found) = known_member(alloc, units.units(), known, own, standing.standing(), name) else {
+    let standing = placed.standing.standing();
+    let Ok(found) = known_member(alloc, units.units(), known, own, standing, name) else {
         return Err(DeadEnd::NoMemory);
     };
     match found {
-        Some(member) => member_part(units, entry_known(member), spot, past),
-        None => found_part(alloc, units, view, name, standing, spot, past),
+        Some(member) => member_part(units, entry_known(member), placed.spot, placed.past),
+        None => found_part(alloc, units, view, name, placed),
     }
 }
 
@@ -207,19 +215,19 @@ pub fn member_step<'r, 'k, 'a>(
     ensures known { OnOk result (named.AreKnown units.now known.new) }
 {
     let Part { typed, spot, past } = part;
-    let met = meet(units, typed, spot.place().bits)?;
+    let met = match meet(units, typed, spot.place().bits) {
+        Ok(met) => met,
+        Err(end) => return Err(end),
+    };
     match class_of(met.standing.entry().tag) {
-        Class::Members => member_of(
-            alloc,
-            units,
-            view,
-            known,
-            own,
-            name,
-            &met.standing,
-            spot,
-            past,
-        ),
+        Class::Members => {
+            let placed = Placed {
+                standing: &met.standing,
+                spot,
+                past,
+            };
+            member_of(alloc, units, view, known, own, name, placed)
+        }
         _ => Err(DeadEnd::Marked(Mark::UnsupportedType)),
     }
 }

@@ -1,6 +1,7 @@
 //! Members of structures by their names (DWARF 4 section 5.5.6).
 
-ghost use Rattle.std.specs.Prelude.{◌≡◌, ◌≤◌, ℕ, List, length, filter, find, true, false, None, IfOk, OnOk, IfSome, option_copied};
+ghost use Rattle.std.specs.Prelude.{◌≡◌, ◌≤◌, ℕ, List, length, filter, find, true, false, None, IfOk, OnOk};
+ghost use Rattle.std.specs.Prelude.{IfSome, option_copied};
 ghost use Rattle.std.specs.Option.{option_or};
 ghost use Rattle.dwarf_info.specs.declared.entry.UnitAnswer.{UnitAnswer};
 ghost use Rattle.dwarf_entries.specs.Standing.{entries_inside, is_child, standing_at};
@@ -86,8 +87,10 @@ fn add_first<'r, 'a>(
     if names.first.contains_key(name) {
         return Ok(());
     }
-    names.first.insert(name, NamedMember { entry })?;
-    Ok(())
+    match names.first.insert(name, NamedMember { entry }) {
+        Ok(_) => Ok(()),
+        Err(_) => Err(NoMemory),
+    }
 }
 
 /// Adds an entry behind all others, if it is a member whose name is kept.
@@ -112,27 +115,24 @@ fn add_entry<'r, 'a>(
     add_first(names, name, entry)
 }
 
-/// The first of each name, of the members among entries that are children of one of this depth.
+/// Adds the members among entries that are children of one of this depth.
 #[tactic(auto, using(crate::proofs::NamedLaws::turn_named, crate::proofs::NamedLaws::all_named))]
-fn names_among<'r, 'a>(
-    alloc: Global,
+fn add_entries<'r, 'a>(
+    names: &mut MemberNames<'r, 'a>,
     units: &'r Units<'a>,
     depth: u32,
     entries: &'r [Entry<'a>],
-) -> Result<MemberNames<'r, 'a>, NoMemory>
-    ensures { IfOk result (λ names. (q : List ℕ) → length q ≤ named.longest_name
-        → named.first_by names q
-        ≡ find (named.is_called units.now q) (filter (is_child depth tag_member) entries.now)) }
+) -> Result<(), NoMemory>
+    ensures { OnOk result ((q : List ℕ) → length q ≤ named.longest_name
+        → named.first_by names.new q ≡ option_or (named.first_by names.old q)
+        (find (named.is_called units.now q) (filter (is_child depth tag_member) entries.now))) }
 {
-    let mut names = MemberNames {
-        first: BTreeMap::new(alloc),
-    };
     let mut left = entries;
     'entries: while let [entry, behind @ ..] = left {
-        add_entry(&mut names, units, depth, entry)?;
+        add_entry(names, units, depth, entry)?;
         left = behind;
     }
-    Ok(names)
+    Ok(())
 }
 
 /// Whether a variant part is among the children of an entry.
@@ -148,7 +148,6 @@ fn has_variant_part(standing: &Standing<'_, '_>) -> bool
 }
 
 /// The members of a structure without variant parts.
-#[tactic(auto, using(crate::proofs::NamedLaws::named_here))]
 fn names_of<'r, 'a>(
     alloc: Global,
     units: &'r Units<'a>,
@@ -158,8 +157,13 @@ fn names_of<'r, 'a>(
         (entries_inside standing.now) ≡ None }
     ensures { IfOk result (named.AreNamed units.now standing.now) }
 {
-    let names = names_among(alloc, units, standing.entry().depth, standing.inside())?;
-    Ok(names)
+    let mut names = MemberNames {
+        first: BTreeMap::new(alloc),
+    };
+    match add_entries(&mut names, units, standing.entry().depth, standing.inside()) {
+        Ok(()) => Ok(names),
+        Err(NoMemory) => Err(NoMemory),
+    }
 }
 
 impl<'r, 'a> MemberNames<'r, 'a> {
@@ -167,8 +171,10 @@ impl<'r, 'a> MemberNames<'r, 'a> {
     fn first(&self, name: &[u8]) -> Option<NamedMember<'r, 'a>>
         ensures { result ≡ named.first_by self.now name.now }
     {
-        let found = self.first.get(name)?;
-        Some(NamedMember { entry: found.entry })
+        match self.first.get(name) {
+            Some(found) => Some(NamedMember { entry: found.entry }),
+            None => None,
+        }
     }
 }
 
@@ -185,8 +191,16 @@ fn keep<'r, 'a>(
         → named.AreNamedOf units (standing_at units at) names.entry
         → named.AreKnown units known.new) }
 {
-    known.structures.insert(at, names)?;
-    Ok(())
+    match known.structures.insert(at, names) {
+        Ok(before) => {
+            drop(before);
+            Ok(())
+        }
+        Err(failed) => {
+            drop(failed);
+            Err(NoMemory)
+        }
+    }
 }
 
 /// Keeps the members of a structure that was met at a step behind the first few, where it has no
@@ -213,7 +227,9 @@ fn keep_members<'r, 'a>(
     if has_variant_part(standing) {
         return Ok(());
     }
-    let names = names_of(alloc, units, standing)?;
+    let Ok(names) = names_of(alloc, units, standing) else {
+        return Err(NoMemory);
+    };
     keep(known, at, names)?;
     Ok(())
 }
@@ -250,7 +266,9 @@ pub fn known_member<'r, 'a>(
     if name.len() > LONGEST_NAME {
         return Ok(None);
     }
-    keep_members(alloc, units, known, standing)?;
+    let Ok(()) = keep_members(alloc, units, known, standing) else {
+        return Err(NoMemory);
+    };
     match names_at(known, standing.entry().at) {
         Some(names) => Ok(Some(names.first(name))),
         None => Ok(None),

@@ -67,7 +67,9 @@ fn shown_behind<'r, 'a>(
     let source = source_alone(alloc, frame, &variable)?;
     let units = frame.types();
     let typed = type_of(units, &variable.entry().attributes);
-    let reached = walk(alloc, units, frame.view(), steps, typed, source)?;
+    let Ok(reached) = walk(alloc, units, frame.view(), steps, typed, source) else {
+        return Err(NoMemory);
+    };
     match reached {
         Ok(part) => shown_part(alloc, units, frame.view(), &part),
         Err(mark) => Ok(Shown::Marked(mark)),
@@ -92,7 +94,7 @@ pub fn value_by<'r, 'a>(
     ensures is { IfOk result (λ shown. shown ≡ definitions.path_shown frame.now path.now) }
     ensures known { AreNames frame.now.sections frame.now.units names.new }
 {
-    let variable = chosen_known(
+    let Ok(variable) = chosen_known(
         alloc,
         frame.sections(),
         frame.units(),
@@ -100,7 +102,9 @@ pub fn value_by<'r, 'a>(
         frame.subprogram(),
         names,
         path.name.as_slice(),
-    )?;
+    ) else {
+        return Err(NoMemory);
+    };
     shown_behind(alloc, frame, path.steps.as_slice(), variable)
 }
 

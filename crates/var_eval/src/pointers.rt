@@ -50,7 +50,10 @@ pub fn pointer_step<'r, 'k, 'a>(
     ensures { Tells result (steps.pointer_step units.now view.now.memory part.entry) }
 {
     let Part { typed, spot, past } = part;
-    let met = meet(units, typed, spot.place().bits)?;
+    let met = match meet(units, typed, spot.place().bits) {
+        Ok(met) => met,
+        Err(end) => return Err(end),
+    };
     match class_of(met.standing.entry().tag) {
         Class::Pointing => {
             let to = type_of(units, &met.standing.entry().attributes);

@@ -117,8 +117,10 @@ pub fn keep_source(
         return Ok(());
     }
     let number = number_of(found.place);
-    sources.insert(number, found)?;
-    Ok(())
+    match sources.insert(number, found) {
+        Ok(_) => Ok(()),
+        Err(_) => Err(NoMemory),
+    }
 }
 
 /// The span of a long expression.

@@ -43,10 +43,14 @@ pub fn visible<'r, 'a>(
 ) -> Result<Variables<'a>, NoMemory>
     ensures { IfOk result (λ all. all ≡ definitions.visible sections.now units.now address) }
 {
-    let standing = variables_at(alloc, sections, units.as_slice(), address)?;
+    let Ok(standing) = variables_at(alloc, sections, units.as_slice(), address) else {
+        return Err(NoMemory);
+    };
     let mut variables = Items::new(alloc);
     for variable in standing.as_slice() {
-        variables.push(variable_of(units, variable))?;
+        let Ok(()) = variables.push(variable_of(units, variable)) else {
+            return Err(NoMemory);
+        };
     }
     Ok(variables)
 }

@@ -49,28 +49,35 @@ fn take_step<'r, 'k, 'a>(
     match step {
         Step::Member(name) => { member_step(alloc, units, view, known, own, name.as_slice(), part) }
         Step::Arrow(name) => {
-            let to = pointer_step(units, view, part)?;
-            member_step(alloc, units, view, known, true, name.as_slice(), to)
+            match pointer_step(units, view, part) {
+                Ok(to) => member_step(alloc, units, view, known, true, name.as_slice(), to),
+                Err(end) => Err(end),
+            }
         }
         Step::Index(index) => element_step(units, view, *index, part),
         Step::Deref => pointer_step(units, view, part),
     }
 }
 
+#[tactic(auto, using(crate::proofs::Walks::goes_on, crate::proofs::Walks::stops, crate::proofs::Walks::ends, crate::proofs::OwnLaws::own_behind_step))]
 fn take_steps<'r, 'k, 'a>(
     alloc: Global,
     units: &TypedUnits<'r, 'k, 'a>,
     view: &FrameView<'_>,
+    known: &mut KnownMembers<'r, 'a>,
     steps: &[Step<'_>],
     whole: Part<'r, 'k, 'a>,
 ) -> Result<Part<'r, 'k, 'a>, DeadEnd>
+    requires { named.AreKnown units.now known.old }
     ensures { Tells result (definitions.walk units.now view.now.memory steps.now whole.entry) }
 {
-    let mut known = no_members(alloc);
     let mut own = false;
     let mut part = whole;
     for step in steps {
-        part = take_step(alloc, units, view, &mut known, own, part, step)?;
+        part = match take_step(alloc, units, view, known, own, part, step) {
+            Ok(part) => part,
+            Err(end) => return Err(end),
+        };
         own = owns(own, step);
     }
     Ok(part)
@@ -95,7 +102,11 @@ pub fn walk<'r, 'k, 'a>(
         ≡ definitions.walk units.now view.now.memory steps.now
         (definitions.whole typed.entry source)) }
 {
-    match take_steps(alloc, units, view, steps, Part::whole(typed, source)) {
+    let mut known = no_members(alloc);
+    let whole = Part::whole(typed, source);
+    let reached = take_steps(alloc, units, view, &mut known, steps, whole);
+    drop(known);
+    match reached {
         Ok(part) => Ok(Ok(part)),
         Err(DeadEnd::Marked(mark)) => Ok(Err(mark)),
         Err(DeadEnd::TooFar | DeadEnd::NoMemory) => Err(NoMemory),

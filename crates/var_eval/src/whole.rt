@@ -62,10 +62,17 @@ fn push_long<'r, 'a>(
         return push_from(alloc, text, frame, variable, source);
     }
     let source = source_of(alloc, frame, variable, &mut known.lists)?;
-    let mark = push_from(alloc, text, frame, variable, &source)?;
-    let room = room_of(frame.sections(), variable.unit());
-    keep_source(room, &mut known.sources, KnownSource { place, source })?;
-    Ok(mark)
+    match push_from(alloc, text, frame, variable, &source) {
+        Ok(mark) => {
+            let room = room_of(frame.sections(), variable.unit());
+            keep_source(room, &mut known.sources, KnownSource { place, source })?;
+            Ok(mark)
+        }
+        Err(NoMemory) => {
+            drop(source);
+            Err(NoMemory)
+        }
+    }
 }
 
 /// The same of each variable.
