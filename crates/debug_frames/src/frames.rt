@@ -157,23 +157,6 @@ fn push_lines(
     push_function_line(out, alloc, information, index, resolved, before, frame)
 }
 
-/// Adds the lines of a frame at an address, of which this is known.
-#[tactic(auto, unfolding(crate::specs::Frames::frame_text))]
-fn push_resolved(
-    out: &mut Text,
-    alloc: Global,
-    information: &Information<'_>,
-    index: u64,
-    resolved: &Resolved<'_, '_>,
-    frame: &Frame,
-) -> Result<(), NoMemory>
-    requires { resolved.now ≡ resolved_at information.now resolved.now.address }
-    ensures { OnOk result (out.new
-        ≡ out.old ++ definitions.lines_at information.now resolved.now.address index frame.now) }
-{
-    push_lines(out, alloc, information, index, resolved, frame)
-}
-
 /// Adds the lines of a frame by its index: one for each inlined subroutine that holds its address,
 /// the innermost first, and one for its function, each with its place in the source where it is
 /// known.
@@ -193,9 +176,13 @@ pub fn push_frame(
     let address = address_of(m, frame);
     let information = symbolizer.information();
     if let Some(resolved) = symbolizer.get(address) {
-        return push_resolved(out, alloc, information, index, resolved, frame);
+        return push_lines(out, alloc, information, index, resolved, frame);
     }
-    let resolved = symbolizer.resolve(alloc, address)?;
-    push_resolved(out, alloc, information, index, &resolved, frame)?;
-    symbolizer.keep(resolved)
+    match Resolved::of(alloc, information, address) {
+        Ok(resolved) => match push_lines(out, alloc, information, index, &resolved, frame) {
+            Ok(()) => symbolizer.keep(resolved),
+            Err(NoMemory) => Err(NoMemory),
+        },
+        Err(NoMemory) => Err(NoMemory),
+    }
 }

@@ -67,9 +67,14 @@ fn ranges_of(alloc: Global, sequences: &[Sequence]) -> Result<Vec<Range>, NoMemo
 fn steps_of(alloc: Global, sequences: &[Sequence]) -> Result<Steps, NoMemory>
     ensures { IfOk result (Answer (ranges_from held_by 0 sequences.now)) }
 {
-    let ranges = ranges_of(alloc, sequences)?;
-    let steps = Steps::of(alloc, ranges.as_slice())?;
-    Ok(steps)
+    match ranges_of(alloc, sequences) {
+        Ok(ranges) => {
+            let steps = Steps::of(alloc, ranges.as_slice());
+            drop(ranges);
+            steps
+        }
+        Err(NoMemory) => Err(NoMemory),
+    }
 }
 
 fn sequence_at(number: usize, sequences: &[Sequence]) -> Option<&Sequence>
@@ -92,8 +97,13 @@ impl<'a> Held<'a> {
     pub(crate) fn new(alloc: Global, lines: Lines<'a>) -> Result<Self, NoMemory>
         ensures { IfOk result (λ h. h ≡ lines.entry) }
     {
-        let steps = steps_of(alloc, lines.sequences.as_slice())?;
-        Ok(Held { lines, steps })
+        match steps_of(alloc, lines.sequences.as_slice()) {
+            Ok(steps) => Ok(Held { lines, steps }),
+            Err(NoMemory) => {
+                drop(lines);
+                Err(NoMemory)
+            }
+        }
     }
 
     pub(crate) fn lines(&self) -> &Lines<'a>

@@ -1,17 +1,13 @@
 //! What the bytes of a module say of its source.
 
-ghost use Rattle.std.specs.Prelude.{◌≡◌, ◌≤◌, length, IfOk, IfSome, Some};
+ghost use Rattle.std.specs.Prelude.{◌≡◌, ◌≤◌, length, IfOk, Some};
 ghost use Rattle.dwarf_info.specs.Sections.{IsReadable5, greatest_section};
 ghost use Rattle.dwarf_scopes.specs.Scopes.{subprogram_at, inlined_at};
-ghost use Rattle.dwarf_scopes.specs.calls.Tabled.{IsTable};
 ghost use Rattle.debug_frames.specs.Information as definitions;
-ghost use Rattle.debug_frames.specs.Frames.{file_in};
 ghost use Rattle.debug_frames.specs.Programs.{program_there};
 ghost use Rattle.debug_frames.specs.calls.Kept.{programs_of, IsKept};
-ghost use Rattle.debug_frames.specs.inner.Paths.{shown_or_mark};
 ghost use Rattle.debug_frames.specs.inner.Stores.{is_read};
 
-use crate::files::Path;
 use crate::programs::Programs;
 use crate::sections::sections_of;
 use causes::NoMemory;
@@ -61,29 +57,18 @@ fn said<'a>(
     requires { IsReadable5 sections }
     ensures { IfOk result (λ x. x ≡ definitions.said sections.entry names) }
 {
-    let units = read_units5(alloc, &sections)?;
-    let programs = Programs::of(alloc, &sections, units.as_slice())?;
-    Ok(Information {
-        sections,
-        units,
-        subprograms: None,
-        programs,
-        names,
-    })
-}
-
-/// The table of the subprograms of units, which may be gathered already.
-fn gathered(
-    alloc: Global,
-    units: &Units<'_>,
-    known: Option<SubprogramTable>,
-) -> Result<SubprogramTable, NoMemory>
-    requires { IfSome known (IsTable units.now) }
-    ensures { IfOk result (IsTable units.now) }
-{
-    match known {
-        Some(table) => Ok(table),
-        None => SubprogramTable::of(alloc, units.as_slice()),
+    match read_units5(alloc, &sections) {
+        Ok(units) => match Programs::of(alloc, &sections, units.as_slice()) {
+            Ok(programs) => Ok(Information {
+                sections,
+                units,
+                subprograms: None,
+                programs,
+                names,
+            }),
+            Err(NoMemory) => Err(NoMemory),
+        },
+        Err(NoMemory) => Err(NoMemory),
     }
 }
 
@@ -96,17 +81,26 @@ impl<'a> Information<'a> {
         ensures { IfOk result (λ x. x ≡ definitions.information bytes.now module_.now.customs) }
     {
         let sections = sections_of(bytes, module_.parts().customs.as_slice());
-        let names = function_names(alloc, bytes, module_)?;
-        said(alloc, sections, names)
+        match function_names(alloc, bytes, module_) {
+            Ok(names) => said(alloc, sections, names),
+            Err(NoMemory) => Err(NoMemory),
+        }
     }
 
     /// Gathers the subprograms, so that each look-up behind it takes no time linear in the entries.
     pub fn gather(&mut self, alloc: Global) -> Result<(), NoMemory>
         ensures { self.new ≡ self.old }
     {
-        let table = gathered(alloc, &self.units, self.subprograms.take())?;
-        self.subprograms = Some(table);
-        Ok(())
+        if self.subprograms.is_some() {
+            return Ok(());
+        }
+        match SubprogramTable::of(alloc, self.units.as_slice()) {
+            Ok(table) => {
+                self.subprograms = Some(table);
+                Ok(())
+            }
+            Err(NoMemory) => Err(NoMemory),
+        }
     }
 
     /// The subprogram at an address.
@@ -120,14 +114,8 @@ impl<'a> Information<'a> {
     {
         let units = self.units.as_slice();
         match &self.subprograms {
-            Some(table) => {
-                let found = table.at(alloc, &self.sections, units, address)?;
-                Ok(found)
-            }
-            None => {
-                let found = subprogram_at(alloc, &self.sections, units, address)?;
-                Ok(found)
-            }
+            Some(table) => table.at(alloc, &self.sections, units, address),
+            None => subprogram_at(alloc, &self.sections, units, address),
         }
     }
 
@@ -144,14 +132,8 @@ impl<'a> Information<'a> {
     {
         let units = self.units.as_slice();
         match &self.subprograms {
-            Some(table) => {
-                let found = table.find(alloc, &self.sections, units, address)?;
-                Ok(found)
-            }
-            None => {
-                let found = found_at(alloc, &self.sections, units, address)?;
-                Ok(found)
-            }
+            Some(table) => table.find(alloc, &self.sections, units, address),
+            None => found_at(alloc, &self.sections, units, address),
         }
     }
 
@@ -188,20 +170,5 @@ impl<'a> Information<'a> {
         ensures { result ≡ is_read (program_there self.now.sections at) }
     {
         self.programs().is_read(at).unwrap()
-    }
-
-    /// The name of the file of a number in what stands at an offset that a unit names.
-    pub(crate) fn path(
-        &self,
-        alloc: Global,
-        at: u32,
-        number: u64,
-    ) -> Result<Option<Path<'a>>, NoMemory>
-        requires { IsKept self.now.sections self.now.units (Some at) }
-        ensures { IfOk result (λ path. shown_or_mark path
-            ≡ file_in (Some (program_there self.now.sections at)) (Some number)) }
-    {
-        let path = self.programs().path(alloc, at, number)?;
-        Ok(path)
     }
 }

@@ -46,10 +46,7 @@ fn path_of_program<'a>(
         (option_map (program_there information.now.sections) at) (Some number)) }
 {
     match at {
-        Some(at) => {
-            let path = information.path(alloc, at, number)?;
-            Ok(path)
-        }
+        Some(at) => information.programs().path(alloc, at, number),
         None => Ok(None),
     }
 }
@@ -69,8 +66,7 @@ fn call_path<'a>(
         return Ok(None);
     };
     let at = named_by(standing.unit().entries.as_slice());
-    let path = path_of_program(alloc, information, at, number)?;
-    Ok(path)
+    path_of_program(alloc, information, at, number)
 }
 
 /// Adds the file from which an inlined subroutine is called.
@@ -85,8 +81,10 @@ fn push_call_file(
         ≡ out.old ++ definitions.call_file_text information.now standing.now) }
 {
     let number = natural(&standing.entry().attributes, CALL_FILE);
-    let path = call_path(alloc, information, standing, number)?;
-    push_path_or_mark(out, alloc, &path)
+    match call_path(alloc, information, standing, number) {
+        Ok(path) => push_path_or_mark(out, alloc, &path),
+        Err(NoMemory) => Err(NoMemory),
+    }
 }
 
 /// Adds the place from which an inlined subroutine is called, where it says a line.

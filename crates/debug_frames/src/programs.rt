@@ -115,9 +115,10 @@ fn ranges_of(alloc: Global, programs: &[(u32, Stored<'_>)]) -> Result<Vec<Range>
 fn steps_of(alloc: Global, programs: &[(u32, Stored<'_>)]) -> Result<Steps, NoMemory>
     ensures { IfOk result (Answer (ranges_from claims_in 0 programs.now)) }
 {
-    let ranges = ranges_of(alloc, programs)?;
-    let steps = Steps::of(alloc, ranges.as_slice())?;
-    Ok(steps)
+    match ranges_of(alloc, programs) {
+        Ok(ranges) => Steps::of(alloc, ranges.as_slice()),
+        Err(NoMemory) => Err(NoMemory),
+    }
 }
 
 /// Reads the program at an offset, where it was not read before.
@@ -145,8 +146,9 @@ fn add<'a>(
         return Ok(());
     }
     let stored = store(alloc, sections, at, room)?;
-    places.insert(at, programs.len())?;
+    let number = programs.len();
     programs.push((at, stored))?;
+    places.insert(at, number)?;
     Ok(())
 }
 
@@ -228,9 +230,10 @@ fn first_place<'a>(
         ≡ places_among sections.now programs.now address) }
 {
     for program in programs {
-        let place = stored_place(alloc, sections, program.0, &program.1, address)?;
-        if let Some(place) = place {
-            return Ok(Some(place));
+        match stored_place(alloc, sections, program.0, &program.1, address) {
+            Ok(Some(place)) => return Ok(Some(place)),
+            Ok(None) => {}
+            Err(NoMemory) => return Err(NoMemory),
         }
     }
     Ok(None)
@@ -253,8 +256,7 @@ fn place_by<'a>(
     let Some(number) = held.at(address) else {
         return Ok(None);
     };
-    let place = first_place(alloc, sections, behind(number, programs), address)?;
-    Ok(place)
+    first_place(alloc, sections, behind(number, programs), address)
 }
 
 /// The name of the file of a number in the program at an offset.
@@ -272,10 +274,7 @@ fn path_at<'a>(
         ≡ path_at (kept.program_at (seen sections.now programs.now) at) number) }
 {
     match stored_at(at, programs, places) {
-        Some(stored) => {
-            let path = stored_path(alloc, sections, at, stored, number)?;
-            Ok(path)
-        }
+        Some(stored) => stored_path(alloc, sections, at, stored, number),
         None => Ok(None),
     }
 }
@@ -290,10 +289,10 @@ fn push_lines<'a>(
     ensures { OnOk result (lines.new
         ≡ lines.old ++ kept.read_in (definitions.program_there sections.now at)) }
 {
-    let program = program_there(alloc, sections, at)?;
-    match program {
-        Program::Read(read) => lines.push(read),
-        Program::Unreadable => Ok(()),
+    match program_there(alloc, sections, at) {
+        Ok(Program::Read(read)) => lines.push(read),
+        Ok(Program::Unreadable) => Ok(()),
+        Err(NoMemory) => Err(NoMemory),
     }
 }
 
@@ -324,14 +323,18 @@ impl<'a> Programs<'a> {
     {
         let mut programs = Items::new(alloc);
         let mut places = BTreeMap::new(alloc);
-        add_all(alloc, &sections, units, &mut programs, &mut places)?;
-        let held = steps_of(alloc, programs.as_slice())?;
-        Ok(Programs {
-            sections,
-            programs,
-            places,
-            held,
-        })
+        match add_all(alloc, &sections, units, &mut programs, &mut places) {
+            Ok(()) => match steps_of(alloc, programs.as_slice()) {
+                Ok(held) => Ok(Programs {
+                    sections,
+                    programs,
+                    places,
+                    held,
+                }),
+                Err(NoMemory) => Err(NoMemory),
+            },
+            Err(NoMemory) => Err(NoMemory),
+        }
     }
 
     /// The line programs that units name.
@@ -343,8 +346,10 @@ impl<'a> Programs<'a> {
         ensures { IfOk result (λ programs. programs
             ≡ kept.programs_of sections.now units.now) }
     {
-        let prepared = PreparedSections::new(alloc, sections)?;
-        Programs::read(alloc, prepared, units)
+        match PreparedSections::new(alloc, sections) {
+            Ok(prepared) => Programs::read(alloc, prepared, units),
+            Err(NoMemory) => Err(NoMemory),
+        }
     }
 
     /// Those that can be read, in the order in which units name them. They are read once more.
@@ -355,8 +360,7 @@ impl<'a> Programs<'a> {
     pub fn lines(&self, alloc: Global) -> Result<Items<Lines<'a>>, NoMemory>
         ensures { IfOk result (λ lines. lines ≡ kept.readable self.now) }
     {
-        let lines = lines_of(alloc, &self.sections, self.programs.as_slice())?;
-        Ok(lines)
+        lines_of(alloc, &self.sections, self.programs.as_slice())
     }
 
     /// Whether what stands at an offset that a unit names can be read.
@@ -379,8 +383,7 @@ impl<'a> Programs<'a> {
         ensures { IfOk result (λ path. path ≡ path_at (kept.program_at self.now at) number) }
     {
         let programs = self.programs.as_slice();
-        let path = path_at(alloc, &self.sections, programs, &self.places, at, number)?;
-        Ok(path)
+        path_at(alloc, &self.sections, programs, &self.places, at, number)
     }
 
     /// The place of the row of a code address: in the first program that has one.
@@ -393,7 +396,6 @@ impl<'a> Programs<'a> {
             ≡ option_map row_place (kept.located_among self.now address)) }
     {
         let programs = self.programs.as_slice();
-        let place = place_by(alloc, &self.sections, programs, &self.held, address)?;
-        Ok(place)
+        place_by(alloc, &self.sections, programs, &self.held, address)
     }
 }

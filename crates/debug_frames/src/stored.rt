@@ -90,10 +90,10 @@ fn whole<'a>(alloc: Global, program: Program<'a>) -> Result<Stored<'a>, NoMemory
     ensures { IfOk result (Serves program.entry) }
 {
     match program {
-        Program::Read(lines) => {
-            let held = Held::new(alloc, lines)?;
-            Ok(Stored::Whole(held))
-        }
+        Program::Read(lines) => match Held::new(alloc, lines) {
+            Ok(held) => Ok(Stored::Whole(held)),
+            Err(NoMemory) => Err(NoMemory),
+        },
         Program::Unreadable => Ok(Stored::Unreadable),
     }
 }
@@ -121,12 +121,15 @@ pub(crate) fn store<'a>(
     ensures same { room.new.scans ≡ room.old.scans }
 {
     if fits(sections.sections().base.line, at as usize, &mut room.left) {
-        let program = program_there(alloc, sections, at)?;
-        let stored = whole(alloc, program)?;
-        return Ok(stored);
+        return match program_there(alloc, sections, at) {
+            Ok(program) => whole(alloc, program),
+            Err(NoMemory) => Err(NoMemory),
+        };
     }
-    let bounds = scan_lines5(alloc, sections, at as usize, &mut room.scans)?;
-    Ok(bounded(bounds))
+    match scan_lines5(alloc, sections, at as usize, &mut room.scans) {
+        Ok(bounds) => Ok(bounded(bounds)),
+        Err(NoMemory) => Err(NoMemory),
+    }
 }
 
 // ---- the addresses that it may hold
@@ -186,8 +189,14 @@ fn place_within<'a>(
         ≡ option_map row_place (located_in (program_there sections.now at) address)) }
 {
     if hull.holds(address) {
-        let again = program_there(alloc, sections, at)?;
-        return Ok(place_in_program(&again, address));
+        return match program_there(alloc, sections, at) {
+            Ok(again) => {
+                let place = place_in_program(&again, address);
+                drop(again);
+                Ok(place)
+            }
+            Err(NoMemory) => Err(NoMemory),
+        };
     }
     Ok(None)
 }
@@ -207,10 +216,7 @@ pub(crate) fn stored_place<'a>(
     match stored {
         Stored::Whole(held) => Ok(place_held(held, address)),
         Stored::Unreadable => Ok(None),
-        Stored::Bounded(hull) => {
-            let place = place_within(alloc, sections, at, hull, address)?;
-            Ok(place)
-        }
+        Stored::Bounded(hull) => place_within(alloc, sections, at, hull, address),
     }
 }
 
@@ -223,8 +229,14 @@ fn path_again<'a>(
     ensures { IfOk result (λ path. path
         ≡ path_in_program (program_there sections.now at) number) }
 {
-    let program = program_there(alloc, sections, at)?;
-    Ok(path_in_program(&program, number))
+    match program_there(alloc, sections, at) {
+        Ok(program) => {
+            let path = path_in_program(&program, number);
+            drop(program);
+            Ok(path)
+        }
+        Err(NoMemory) => Err(NoMemory),
+    }
 }
 
 /// The name of the file of a number in the program at an offset, of which this is kept.
@@ -242,9 +254,6 @@ pub(crate) fn stored_path<'a>(
     match stored {
         Stored::Whole(held) => Ok(path_in(held.lines(), number)),
         Stored::Unreadable => Ok(None),
-        Stored::Bounded(_) => {
-            let path = path_again(alloc, sections, at, number)?;
-            Ok(path)
-        }
+        Stored::Bounded(_) => path_again(alloc, sections, at, number),
     }
 }

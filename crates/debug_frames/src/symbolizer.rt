@@ -63,8 +63,7 @@ fn place_at<'a>(
     ensures { IfOk result (λ place. place ≡ option_map row_place
         (located_at information.now.sections information.now.units address)) }
 {
-    let place = information.programs().place(alloc, address)?;
-    Ok(place)
+    information.programs().place(alloc, address)
 }
 
 impl<'r, 'a> Resolved<'r, 'a> {
@@ -76,14 +75,16 @@ impl<'r, 'a> Resolved<'r, 'a> {
     ) -> Result<Self, NoMemory>
         ensures { IfOk result (λ x. x ≡ resolved_at information.now address) }
     {
-        let found = information.found_at(alloc, address)?;
         let place = place_at(alloc, information, address)?;
-        Ok(Resolved {
-            address,
-            name: name_within(information, &found.subprogram),
-            inlined: found.inlined,
-            place,
-        })
+        match information.found_at(alloc, address) {
+            Ok(found) => Ok(Resolved {
+                address,
+                name: name_within(information, &found.subprogram),
+                inlined: found.inlined,
+                place,
+            }),
+            Err(NoMemory) => Err(NoMemory),
+        }
     }
 }
 
@@ -128,13 +129,6 @@ impl<'r, 'a> Symbolizer<'r, 'a> {
         self.information
     }
 
-    /// What is known of an address that was not asked for before.
-    pub(crate) fn resolve(&self, alloc: Global, address: u32) -> Result<Resolved<'r, 'a>, NoMemory>
-        ensures { IfOk result (λ x. x ≡ resolved_at self.now address) }
-    {
-        Resolved::of(alloc, self.information, address)
-    }
-
     /// What is known of an address, where it was asked for before.
     pub(crate) fn get(&self, address: u32) -> Option<&Resolved<'r, 'a>>
         ensures { IfSome result (λ x. x.now ≡ resolved_at self.now address) }
@@ -147,7 +141,9 @@ impl<'r, 'a> Symbolizer<'r, 'a> {
         requires { resolved ≡ resolved_at self.old resolved.address }
         ensures { self.new ≡ self.old }
     {
-        self.known.insert(resolved.address, resolved)?;
-        Ok(())
+        match self.known.insert(resolved.address, resolved) {
+            Ok(_) => Ok(()),
+            Err(_) => Err(NoMemory),
+        }
     }
 }

@@ -23,7 +23,7 @@ returns-clause-value c =
 
 pub returns-clause-placed : goal.returns-clause-placed
 returns-clause-placed c =
-    placed_new c.args.programs.now c.push.new.self (get nat_cmp c.args.places.now) (get nat_cmp c.insert.new.self) c.in-Some.at c.len.result c.in_ok-stored.stored c.requires.placed (sym c.contains_key.ensures ∙ c.if-contains_key.false) c.len.ensures
+    placed_new c.args.programs.now c.push.new.self (get nat_cmp c.args.places.now) (get nat_cmp c.insert.new.self) c.in-Some.at c.len-number.result c.in_ok-stored.stored c.requires.placed (sym c.contains_key.ensures ∙ c.if-contains_key.false) c.len-number.ensures
     c.in_ok-insert.ensures.updates.0 c.in_ok-push.ensures.ok
 
 pub returns-clause-stored : goal.returns-clause-stored

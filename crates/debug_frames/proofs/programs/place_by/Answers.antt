@@ -1,4 +1,5 @@
 use Rattle.std.proofs.Common.{◌<◌, ◌^◌, ℕ, List, sym, ap, subst, ◌∙◌, arith}
+use Rattle.std.proofs.lemmas.Result.{IfOk-weaker}
 use Rattle.debug_frames.specs.declared.stored.Stored.{Stored}
 use Rattle.debug_frames.specs.inner.Stores.{AreStored, places_among}
 use Rattle.debug_frames.proofs.StoreLaws.{none_claimed, first_claimed, stored_behind}
@@ -17,5 +18,5 @@ returns c =
     let s = c.args.sections.now in
     let a = c.args.address in
     let small : a < 2 ^ 32 = omega arith in
-    c.in_ok-place.ensures ∙ ap (λ (xs : List (ℕ × Stored)). places_among s xs a) c.behind.ensures
-    ∙ first_claimed s a c.args.programs.now c.args.held.now c.in-Some.number small c.requires.stored c.requires.held (sym c.at.ensures ∙ c.in-Some.is)
+    IfOk-weaker c.first_place.result _ _ (λ place is. is ∙ ap (λ (xs : List (ℕ × Stored)). places_among s xs a) c.behind.ensures
+    ∙ first_claimed s a c.args.programs.now c.args.held.now c.in-Some.number small c.requires.stored c.requires.held (sym c.at.ensures ∙ c.in-Some.is)) c.first_place.ensures

@@ -1,5 +1,6 @@
 use Rattle.std.proofs.Common.{ℕ, List, Option, ap, ◌∙◌}
 use Rattle.std.specs.Prelude.{option_map}
+use Rattle.std.proofs.lemmas.Result.{IfOk-weaker}
 use Rattle.dwarf_line.specs.Place.{Located}
 use Rattle.debug_frames.specs.declared.programs.Program.{Program}
 use Rattle.debug_frames.specs.calls.Kept.{located_among}
@@ -11,5 +12,5 @@ pub returns : goal.returns
 returns c =
     let x = c.args.information.now in
     let a = c.args.address in
-    c.in_ok-place.ensures ∙ ap (λ (ps : List (ℕ × Program)). option_map row_place (located_among ps a)) c.programs.ensures
-    ∙ ap (λ (o : Option Located). option_map row_place o) (by_units x.sections x.units a)
+    IfOk-weaker c.place.result _ _ (λ place is. is ∙ ap (λ (ps : List (ℕ × Program)). option_map row_place (located_among ps a)) c.programs.ensures
+    ∙ ap (λ (o : Option Located). option_map row_place o) (by_units x.sections x.units a)) c.place.ensures
