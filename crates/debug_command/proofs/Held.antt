@@ -13,7 +13,6 @@ use Rattle.dump_format.specs.declared.dump.Dump.{Dump}
 use Rattle.dump_format.specs.declared.fault.DumpFault.{DumpFault}
 use Rattle.dump_format.specs.declared.fault.DumpFault.TheVariants as dump_fault
 use Rattle.dump_format.specs.Decode.{dump_from}
-use Rattle.dump_match.specs.declared.mismatch.Mismatch.{Mismatch}
 use Rattle.commands.specs.Inputs.{input_of, Then}
 use Rattle.commands.specs.Loading.{IfLoaded, undecoded}
 use Rattle.commands.specs.Refusal.{IsRefusal}

@@ -61,7 +61,9 @@ fn texts_of(
     ensures { IfOk result (PrintsAll (subject_of bytes.now matched.entry) 0 commands.now) }
 {
     let mut session = Session::new(alloc, bytes, matched)?;
-    printed(alloc, &mut session, commands)
+    let text = printed(alloc, &mut session, commands);
+    drop(session);
+    text
 }
 
 /// The texts of commands on a module, which these bytes spell, and a dump that can be one of it.
@@ -117,7 +119,11 @@ fn on_dump(
     ensures ended { IfOk result (Ended (λ _. ⊥)) }
 {
     match decode_dump(alloc, dump_bytes) {
-        Ok(dump) => judged(alloc, bytes, m, &dump, commands),
+        Ok(dump) => {
+            let answer = judged(alloc, bytes, m, &dump, commands);
+            drop(dump);
+            answer
+        }
         Err(fault) => refused_dump(alloc, fault),
     }
 }
@@ -134,7 +140,11 @@ pub fn on_bytes(
 {
     let loaded = load(alloc, bytes)?;
     match loaded {
-        Given::Value(m) => on_dump(alloc, bytes, &m, dump_bytes, commands),
+        Given::Value(m) => {
+            let answer = on_dump(alloc, bytes, &m, dump_bytes, commands);
+            drop(m);
+            answer
+        }
         Given::Refused(refusal) => Ok(refusal),
     }
 }

@@ -4,3 +4,4 @@ pub mod VariableLines
 pub mod ListingLines
 pub mod Rows
 pub mod WordLaws
+pub mod FrameLines

@@ -3,3 +3,4 @@ pub mod Sitting
 pub mod Words
 pub mod Types
 pub mod Parts
+pub mod Spelled

@@ -16,6 +16,7 @@ fn locals_of(ftype: Option<&FuncType>, body: &Body) -> u32
 }
 
 /// How many locals the function of a frame has, with its parameters.
+#[tactic(auto, using(crate::proofs::Locals::few_of))]
 pub fn frame_locals(m: &ModuleParts, frame: &Frame) -> u32
     requires { WithinLimits m.now }
     ensures { result ≡ frame_locals m.now frame.now }

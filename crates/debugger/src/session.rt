@@ -68,8 +68,10 @@ impl<'a, 'm, 'd, 'b> Session<'a, 'm, 'd, 'b> {
             (information bytes.now matched.entry.module_.customs)
             matched.entry.module_ matched.entry.dump) chosen) }
     {
-        let subject = Subject::new(alloc, bytes, known, matched)?;
-        Ok(Session { subject, chosen })
+        match Subject::new(alloc, bytes, known, matched) {
+            Ok(subject) => Ok(Session { subject, chosen }),
+            Err(NoMemory) => Err(NoMemory),
+        }
     }
 
     /// A session on the module that these bytes spell, and a dump that can be one of it. Debugging

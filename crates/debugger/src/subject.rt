@@ -6,12 +6,11 @@ ghost use Rattle.wasm_syntax.specs.Valid.{There};
 ghost use Rattle.dwarf_info.specs.Sections.{greatest_section};
 ghost use Rattle.dump_match.specs.States.{StateOperandCount};
 ghost use Rattle.debugger.specs.Recorded as recorded;
-ghost use Rattle.var_eval.specs.calls.Names.{AreNames};
 ghost use Rattle.debug_frames.specs.Information.{information};
 ghost use Rattle.debugger.specs.Subject.{Spells, subject_on};
-ghost use Rattle.debugger.specs.calls.Types.{AreTypes};
+ghost use Rattle.debugger.specs.calls.Types.{AreKept};
 
-use crate::known_types::KnownTypes;
+use crate::known_types::{Kept, kept_of};
 use crate::{recorded_globals, recorded_memory};
 use causes::NoMemory;
 use debug_frames::Information;
@@ -21,7 +20,7 @@ use linear_memory::Memory;
 use pm_text::Items;
 use std::alloc::Global;
 use std::marker::Model;
-use var_eval::{KnownNames, no_names};
+use std::mem;
 use wasm_syntax::{ModuleParts, Seen};
 use wasm_validate::Validated;
 
@@ -31,11 +30,9 @@ use wasm_validate::Validated;
 #[derive(Drop)]
 pub struct Subject<'a, 'm, 'd, 'b> {
     bytes: &'a [u8],
-    known: Option<Information<'a>>,
+    pub(crate) known: Option<Information<'a>>,
     // Of its units.
-    types: Option<KnownTypes>,
-    // Of its units, at an address.
-    names: Option<KnownNames<'a>>,
+    kept: Option<Kept<'a>>,
     matched: StateMatched<'m, 'd, 'b>,
     globals: Items<Seen>,
     memory: Option<Memory>,
@@ -43,11 +40,10 @@ pub struct Subject<'a, 'm, 'd, 'b> {
 
 impl<'a, 'm, 'd, 'b> Model for Subject<'a, 'm, 'd, 'b> {
     ghost use Rattle.std.specs.Prelude.{◌≡◌, IfSome, option_map};
-    ghost use Rattle.var_eval.specs.calls.Names.{AreNames};
     ghost use Rattle.debug_frames.specs.Information.{information};
     ghost use Rattle.debugger.specs.Recorded.{recorded_globals, recorded_memory};
     ghost use Rattle.debugger.specs.Subject.{Subject, Spells, subject_on};
-    ghost use Rattle.debugger.specs.calls.Types.{AreTypes};
+    ghost use Rattle.debugger.specs.calls.Types.{AreKept};
 
     ghost Value = { Subject };
 
@@ -56,27 +52,10 @@ impl<'a, 'm, 'd, 'b> Model for Subject<'a, 'm, 'd, 'b> {
 
     ghost invariant = { λ s. Spells s.bytes.now s.matched.module_
         × IfSome s.known (λ x. x ≡ information s.bytes.now s.matched.module_.customs)
-        × IfSome s.types (AreTypes (information s.bytes.now s.matched.module_.customs).units)
-        × IfSome s.names (λ n.
-        AreNames (information s.bytes.now s.matched.module_.customs).sections
-        (information s.bytes.now s.matched.module_.customs).units n)
+        × IfSome s.kept (AreKept (information s.bytes.now s.matched.module_.customs).sections
+        (information s.bytes.now s.matched.module_.customs).units)
         × (s.globals ≡ recorded_globals s.matched.dump)
         × (option_map (λ m. m.memory) s.memory ≡ recorded_memory s.matched.dump) };
-}
-
-/// The globals that a dump records.
-fn globals_of(alloc: Global, matched: &StateMatched<'_, '_, '_>) -> Result<Items<Seen>, NoMemory>
-    ensures { IfOk result (λ seens. seens ≡ recorded.recorded_globals matched.now.dump) }
-{
-    recorded_globals(alloc, matched.dump())
-}
-
-/// The memory that a dump records.
-fn memory_of(alloc: Global, matched: &StateMatched<'_, '_, '_>) -> Result<Option<Memory>, NoMemory>
-    ensures { IfOk result (λ memory. option_map (λ m. m.memory) memory
-        ≡ recorded.recorded_memory matched.now.dump) }
-{
-    recorded_memory(alloc, matched.dump())
 }
 
 /// The globals and the memory that a dump records.
@@ -88,12 +67,14 @@ fn recorded_of(
     ensures memory { IfOk result (λ x. option_map (λ m. m.memory) x.1
         ≡ recorded.recorded_memory matched.now.dump) }
 {
-    let globals = globals_of(alloc, matched)?;
-    let memory = memory_of(alloc, matched)?;
+    let dump = matched.dump();
+    let globals = recorded_globals(alloc, dump)?;
+    let memory = recorded_memory(alloc, dump)?;
     Ok((globals, memory))
 }
 
 /// What the bytes of a module say, which are those that it was decoded from.
+#[tactic(auto, using(wasm_decode::proofs::Short::short_bytes))]
 fn information_of<'a>(
     alloc: Global,
     bytes: &'a [u8],
@@ -104,6 +85,9 @@ fn information_of<'a>(
 {
     Information::of(alloc, bytes, module_.module())
 }
+
+/// Lets go of what the bytes of a module say, where nothing else is held.
+fn discard(_known: Option<Information<'_>>) {}
 
 impl<'a, 'm, 'd, 'b> Subject<'a, 'm, 'd, 'b> {
     /// The bytes are those that the module was decoded from; what they say may be known already.
@@ -119,16 +103,20 @@ impl<'a, 'm, 'd, 'b> Subject<'a, 'm, 'd, 'b> {
             (information bytes.now matched.entry.module_.customs)
             matched.entry.module_ matched.entry.dump) }
     {
-        let (globals, memory) = recorded_of(alloc, &matched)?;
-        Ok(Subject {
-            bytes,
-            known,
-            types: None,
-            names: None,
-            matched,
-            globals,
-            memory,
-        })
+        match recorded_of(alloc, &matched) {
+            Ok((globals, memory)) => Ok(Subject {
+                bytes,
+                known,
+                kept: None,
+                matched,
+                globals,
+                memory,
+            }),
+            Err(NoMemory) => {
+                discard(known);
+                Err(NoMemory)
+            }
+        }
     }
 
     /// What the bytes of the module say, which is taken out where it was read before.
@@ -138,10 +126,7 @@ impl<'a, 'm, 'd, 'b> Subject<'a, 'm, 'd, 'b> {
     {
         match self.known.take() {
             Some(information) => Ok(information),
-            None => {
-                let information = information_of(alloc, self.bytes, self.matched.module())?;
-                Ok(information)
-            }
+            None => information_of(alloc, self.bytes, self.matched.module()),
         }
     }
 
@@ -150,55 +135,32 @@ impl<'a, 'm, 'd, 'b> Subject<'a, 'm, 'd, 'b> {
         requires { information ≡ self.old.information }
         ensures { self.new ≡ self.old }
     {
-        self.known = Some(information);
+        discard(mem::replace(&mut self.known, Some(information)));
     }
 
-    /// Whether it was read before what the bytes of the module say.
-    pub(crate) fn is_read(&self) -> bool {
-        self.known.is_some()
-    }
-
-    /// What is known of the types of the module, which is taken out where it was found before.
-    pub(crate) fn take_types(
+    /// What is known of types and names of the module, which is taken out where it was found before.
+    pub(crate) fn take_kept(
         &mut self,
         alloc: Global,
         information: &Information<'a>,
-    ) -> Result<KnownTypes, NoMemory>
+    ) -> Result<Kept<'a>, NoMemory>
         requires { information.now ≡ self.old.information }
-        ensures value { IfOk result (AreTypes self.old.information.units) }
+        ensures value { IfOk result (AreKept self.old.information.sections
+            self.old.information.units) }
         ensures same { self.new ≡ self.old }
     {
-        match self.types.take() {
-            Some(types) => Ok(types),
-            None => KnownTypes::of(alloc, information.units()),
+        match self.kept.take() {
+            Some(kept) => Ok(kept),
+            None => kept_of(alloc, information.units()),
         }
     }
 
-    /// Keeps what is known of the types of the module.
-    pub(crate) fn keep_types(&mut self, types: KnownTypes)
-        requires { AreTypes self.old.information.units types }
+    /// Keeps what is known of types and names of the module.
+    pub(crate) fn keep(&mut self, kept: Kept<'a>)
+        requires { AreKept self.old.information.sections self.old.information.units kept }
         ensures { self.new ≡ self.old }
     {
-        self.types = Some(types);
-    }
-
-    /// What is known of names at an address, which is taken out where some were asked before.
-    pub(crate) fn take_names(&mut self) -> KnownNames<'a>
-        ensures value { AreNames self.old.information.sections self.old.information.units result }
-        ensures same { self.new ≡ self.old }
-    {
-        match self.names.take() {
-            Some(names) => names,
-            None => no_names(),
-        }
-    }
-
-    /// Keeps what is known of names at an address.
-    pub(crate) fn keep_names(&mut self, names: KnownNames<'a>)
-        requires { AreNames self.old.information.sections self.old.information.units names }
-        ensures { self.new ≡ self.old }
-    {
-        self.names = Some(names);
+        self.kept = Some(kept);
     }
 
     /// What the bytes of the module say, for another subject, where it was read.

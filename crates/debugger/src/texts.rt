@@ -26,6 +26,23 @@ pub fn push_no_frame(out: &mut Text, number: u64) -> Result<(), NoMemory>
     out.push_str("\n")
 }
 
+#[tactic(auto, using(crate::proofs::FrameLines::frames_go_on, crate::proofs::FrameLines::frames_are_done))]
+fn push_each(
+    out: &mut Text,
+    alloc: Global,
+    symbolizer: &mut Symbolizer<'_, '_>,
+    parts: &ModuleParts,
+    frames: &[Frame],
+) -> Result<(), NoMemory>
+    ensures { OnOk result (out.new
+        ≡ out.old ++ numbered (frame_text symbolizer.old parts.now) 0 frames.now) }
+{
+    for (i, frame) in frames.iter().enumerate() {
+        push_frame(out, alloc, symbolizer, parts, i as u64, frame)?;
+    }
+    Ok(())
+}
+
 fn push_frames(
     out: &mut Text,
     alloc: Global,
@@ -37,10 +54,7 @@ fn push_frames(
         ≡ out.old ++ numbered (frame_text information.now parts.now) 0 frames.now) }
 {
     let mut symbolizer = Symbolizer::new(alloc, information);
-    for (i, frame) in frames.iter().enumerate() {
-        push_frame(out, alloc, &mut symbolizer, parts, i as u64, frame)?;
-    }
-    Ok(())
+    push_each(out, alloc, &mut symbolizer, parts, frames)
 }
 
 fn push_one(

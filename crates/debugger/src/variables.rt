@@ -74,6 +74,8 @@ pub fn push_variables(
     ensures { OnOk result (out.new ≡ out.old ++ definitions.all_variables looks.now) }
 {
     let subprogram = looks.subprogram();
-    let variables = variables_from(alloc, looks.sections(), looks.address(), subprogram)?;
+    let Ok(variables) = variables_from(alloc, looks.sections(), looks.address(), subprogram) else {
+        return Err(NoMemory);
+    };
     push_lines_or_none(out, alloc, looks, variables.as_slice())
 }

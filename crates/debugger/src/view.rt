@@ -67,7 +67,9 @@ pub fn looks_of<'s, 'k, 'w, 'v, 'a>(
         frame.now view.now (definitions.left_in chosen.index chosen.operands)) }
 {
     let address = address_of(parts, frame);
-    let subprogram = information.subprogram_at(alloc, address)?;
+    let Ok(subprogram) = information.subprogram_at(alloc, address) else {
+        return Err(NoMemory);
+    };
     VariableFrame::new(
         alloc,
         information.sections(),
