@@ -13,16 +13,16 @@ use std::alloc::Global;
 
 /// The least step behind a first one, up to the run's last one, at which the innermost frame is of
 /// this function, at this code offset. The point stands at the first one, and goes on from there.
-pub(crate) fn next_at<'a>(
+fn looked_ahead<'a>(
     alloc: Global,
     recorded: &Recorded<'a>,
-    mut ahead: Point<'a>,
+    ahead: &mut Point<'a>,
     from: u64,
     end: u64,
     function: u32,
     offset: u32,
 ) -> Result<Option<u64>, NoMemory>
-    requires stands { (answer : Answer) × ReachedAt recorded.now from answer ahead }
+    requires stands { (answer : Answer) × ReachedAt recorded.now from answer ahead.old }
     requires end { OfEach recorded.now (λ p. IsEnd p recorded.now end) }
     requires within { from ≤ end }
     ensures next { IfOk result (NextIn recorded.now function offset from end) }
@@ -37,4 +37,26 @@ pub(crate) fn next_at<'a>(
         }
     }
     Ok(None)
+}
+
+/// The same from the point that is shown, which stays where it is.
+pub(crate) fn next_at<'a>(
+    alloc: Global,
+    recorded: &Recorded<'a>,
+    shown: &Point<'a>,
+    from: u64,
+    end: u64,
+    function: u32,
+    offset: u32,
+) -> Result<Option<u64>, NoMemory>
+    requires stands { (answer : Answer) × ReachedAt recorded.now from answer shown.now }
+    requires end { OfEach recorded.now (λ p. IsEnd p recorded.now end) }
+    requires within { from ≤ end }
+    ensures next { IfOk result (NextIn recorded.now function offset from end) }
+    ensures bound { IfOk result (λ next. IfSome next (λ step. step ≤ end)) }
+{
+    let mut ahead = shown.copy()?;
+    let next = looked_ahead(alloc, recorded, &mut ahead, from, end, function, offset);
+    drop(ahead);
+    next
 }

@@ -1,7 +1,7 @@
 //! The first pass over a run.
 
 ghost use Rattle.std.specs.Prelude.{◌≡◌, ◌≢◌, ◌≤◌, true, false};
-ghost use Rattle.replay.specs.inner.Tracks.{Passes};
+ghost use Rattle.replay.specs.inner.Tracks.{Passes, WaitsAt};
 
 use crate::fault::StartRefusal;
 use crate::point::Point;
@@ -29,16 +29,18 @@ fn is_spent(answer: &RunEnd) -> bool
     }
 }
 
-/// Runs up to the end. A checkpoint is kept in front of each piece of so many steps.
-pub(crate) fn pass<'a>(
+/// Runs from the first state up to the end. A checkpoint is kept in front of each piece of so many
+/// steps.
+fn to_end<'a>(
     alloc: Global,
     recorded: &Recorded<'a>,
+    point: &mut Point<'a>,
     every: u64,
 ) -> Result<Passed<'a>, StartRefusal>
-    requires { 1 ≤ every }
+    requires every { 1 ≤ every }
+    requires waits { WaitsAt recorded.now 0 point.old }
     ensures { Passes result recorded.now every }
 {
-    let mut point = Point::first(alloc, recorded)?;
     let mut track = Track {
         spacing: every,
         wide: 0,
@@ -46,7 +48,7 @@ pub(crate) fn pass<'a>(
     };
     let mut made = 0;
     'pieces: loop {
-        track.keep(&point)?;
+        track.keep(point)?;
         let piece = track.spacing.min(recorded.fuel() - made);
         let outcome = point.advance(alloc, recorded, piece)?;
         if !is_spent(&outcome) {
@@ -66,4 +68,19 @@ pub(crate) fn pass<'a>(
             });
         }
     }
+}
+
+/// Runs up to the end.
+pub(crate) fn pass<'a>(
+    alloc: Global,
+    recorded: &Recorded<'a>,
+    every: u64,
+) -> Result<Passed<'a>, StartRefusal>
+    requires { 1 ≤ every }
+    ensures { Passes result recorded.now every }
+{
+    let mut point = Point::first(alloc, recorded)?;
+    let passed = to_end(alloc, recorded, &mut point, every);
+    drop(point);
+    passed
 }

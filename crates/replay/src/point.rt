@@ -9,6 +9,7 @@ ghost use Rattle.wasm_machine.specs.calls.Instances.{IsNew, StandsAt, copied};
 ghost use Rattle.replay.specs.Replays.{cause_in, is_in};
 ghost use Rattle.replay.specs.Moves.{IsFault};
 ghost use Rattle.replay.specs.inner.Starting.{early, of_segments, Started};
+ghost use Rattle.replay.specs.inner.Reached.{Waits};
 ghost use Rattle.replay.specs.inner.Tracks.{Begun, WaitsAt, ReachedAt};
 
 use crate::fault::StartRefusal;
@@ -55,6 +56,7 @@ fn entry_cause(alloc: Global, recorded: &Recorded<'_>) -> Option<StartRefusal>
 {
     let hosts = recorded.hosts(alloc, 0);
     let fault = entry_fault(recorded.source(), recorded.entry(), recorded.args(), &hosts);
+    drop(hosts);
     early_fault(fault)
 }
 
@@ -92,14 +94,15 @@ fn is_going(answer: &RunAnswer) -> bool
     }
 }
 
-/// The first state of a run, on a new instance.
-fn begun<'a>(
+/// Brings a new instance to the first state of a run, and answers how many replies it was given.
+fn begin<'a>(
     alloc: Global,
     recorded: &Recorded<'a>,
-    mut instance: Instance<'a>,
-) -> Result<Point<'a>, NoMemory>
-    requires { IsNew recorded.now.module_ instance }
-    ensures { cause_in recorded.now ≡ None → IfOk result (WaitsAt recorded.now 0) }
+    instance: &mut Instance<'a>,
+) -> Result<u64, NoMemory>
+    requires { IsNew recorded.now.module_ instance.old }
+    ensures { cause_in recorded.now ≡ None
+        → IfOk result (λ next. Waits recorded.now 0 next instance.new) }
 {
     let mut hosts = recorded.hosts(alloc, 0);
     let answer = instance.invoke(
@@ -110,13 +113,12 @@ fn begun<'a>(
         &mut hosts,
     );
     let going = is_going(&answer);
+    let next = hosts.given();
+    drop(answer);
+    drop(hosts);
     // No step is made, and each import of a valid module is served, so that only memory can be
     // wanting.
-    if !going {
-        return Err(NoMemory);
-    }
-    let next = hosts.given();
-    Ok(Point { next, instance })
+    if going { Ok(next) } else { Err(NoMemory) }
 }
 
 impl<'a> Point<'a> {
@@ -124,9 +126,14 @@ impl<'a> Point<'a> {
     pub(crate) fn first(alloc: Global, recorded: &Recorded<'a>) -> Result<Point<'a>, StartRefusal>
         ensures { Begun result recorded.now }
     {
-        let instance = started(alloc, recorded)?;
-        let point = begun(alloc, recorded, instance)?;
-        Ok(point)
+        let mut instance = started(alloc, recorded)?;
+        match begin(alloc, recorded, &mut instance) {
+            Ok(next) => Ok(Point { next, instance }),
+            Err(NoMemory) => {
+                drop(instance);
+                Err(StartRefusal::NoMemory)
+            }
+        }
     }
 
     /// Makes so many steps more, or fewer where the run ends before, and answers how it ended, or
@@ -145,6 +152,7 @@ impl<'a> Point<'a> {
         let mut hosts = recorded.hosts(alloc, self.next);
         let answer = self.instance.resume(recorded.depth(), steps, &mut hosts);
         self.next += hosts.given();
+        drop(hosts);
         had_memory(answer)
     }
 
@@ -178,8 +186,16 @@ impl<'a> Point<'a> {
     {
         let steps = step - self.instance.steps();
         let mut copy = self.copy()?;
-        let _answer = copy.advance(alloc, recorded, steps)?;
-        Ok(copy)
+        match copy.advance(alloc, recorded, steps) {
+            Ok(answer) => {
+                drop(answer);
+                Ok(copy)
+            }
+            Err(NoMemory) => {
+                drop(copy);
+                Err(NoMemory)
+            }
+        }
     }
 
     /// Whether the innermost frame is of this function, at this code offset.

@@ -14,6 +14,7 @@ use causes::NoMemory;
 use machine_hosted::RunEnd;
 use std::alloc::Global;
 use std::marker::Model;
+use std::mem;
 use wasm_machine::Instance;
 
 /// A run whose replies are there, from its first step to its last one, and the state behind one of
@@ -97,9 +98,10 @@ impl<'a> Replayer<'a> {
         ensures unchanged { OnErr result (self.new ≡ self.old) }
     {
         let step = step.min(self.end);
-        self.shown = self
+        let shown = self
             .track
             .point_from(self.alloc, &self.recorded, &self.shown, self.step, step)?;
+        drop(mem::replace(&mut self.shown, shown));
         self.step = step;
         Ok(step)
     }
@@ -115,11 +117,10 @@ impl<'a> Replayer<'a> {
         ensures found { IfOk result (λ found. Found found self.old function offset self.new) }
         ensures unchanged { OnErr result (self.new ≡ self.old) }
     {
-        let ahead = self.shown.copy()?;
         let next = next_at(
             self.alloc,
             &self.recorded,
-            ahead,
+            &self.shown,
             self.step,
             self.end,
             function,

@@ -31,7 +31,10 @@ fn add<'a>(points: &mut Vec<Point<'a>>, point: Point<'a>) -> Result<(), NoMemory
 {
     match points.push(point) {
         Ok(()) => Ok(()),
-        Err(_) => Err(NoMemory),
+        Err(failed) => {
+            drop(failed);
+            Err(NoMemory)
+        }
     }
 }
 
@@ -39,7 +42,7 @@ fn take_out<'a>(points: &mut Vec<Point<'a>>, index: usize)
     requires { index < length points.old.items }
     ensures { points.new.items ≡ remove points.old.items index }
 {
-    let _dropped = points.remove(index);
+    drop(points.remove(index));
 }
 
 /// The point of an index, which is there.
@@ -121,8 +124,7 @@ impl<'a> Track<'a> {
     {
         self.thin();
         let copy = point.copy()?;
-        add(&mut self.points, copy)?;
-        Ok(())
+        add(&mut self.points, copy)
     }
 
     /// The last checkpoint up to a step, by its index.
@@ -170,8 +172,7 @@ impl<'a> Track<'a> {
             (λ q. q.instance.since_copy ≤ widest self.now.spacing self.now.wide) }
     {
         let kept = self.before(step);
-        let point = kept.copy_at(alloc, recorded, step)?;
-        Ok(point)
+        kept.copy_at(alloc, recorded, step)
     }
 
     /// The same, where the point behind another step is shown. It is gone on from there, where no
@@ -195,10 +196,8 @@ impl<'a> Track<'a> {
         let kept = self.before(step);
         let made = kept.instance.steps();
         if is_between(made, from, step) {
-            let point = shown.copy_at(alloc, recorded, step)?;
-            return Ok(point);
+            return shown.copy_at(alloc, recorded, step);
         }
-        let point = self.point_at(alloc, recorded, step)?;
-        Ok(point)
+        self.point_at(alloc, recorded, step)
     }
 }

@@ -1,6 +1,6 @@
 -- Each state of a run is shown by the dump that is made of it, and that dump can show a state of the module.
-use Rattle.std.proofs.Common.{◌≡◌, ℕ, ◌<◌, ◌≤◌, ◌^◌, ◌-◌, false, List, [], ◌∷◌, map, length, Option, Some, None, refl, sym, ap, ap₂, ◌∙◌, arith}
-use Rattle.std.specs.Prelude.{slice_get, codes}
+use Rattle.std.proofs.Common.{◌≡◌, ℕ, ◌<◌, ◌≤◌, ◌^◌, ◌-◌, false, List, [], ◌∷◌, map, length, Option, Some, None, Result, Ok, Err, refl, sym, ap, ap₂, ◌∙◌, arith}
+use Rattle.std.specs.Prelude.{slice_get, codes, IfOk}
 use Rattle.std.specs.List.{range_with_len}
 use Rattle.std.proofs.lemmas.List.{length-map}
 use Rattle.wasm_syntax.specs.declared.module.ModuleParts.{ModuleParts as Module}
@@ -106,3 +106,14 @@ module _ (m : Module) (whole : IsModule m) (valid : Valid m) (limits : WithinLim
 
   pub step_shown : OfEach x (λ q. ShowsStep q x n d)
   step_shown q is = let k = shows q is in record { state = k.0; is_state = k.1; pictures = pictured q k.0 k.2; whole = alone }
+
+-- ---- an answer with the dump
+
+module _ {E : Type 0} (m : Module) (whole : IsModule m) (valid : Valid m) (limits : WithinLimits m) (x : Recording) (of : m ≡ x.module_) (deep : x.depth < 2 ^ 32) (n : ℕ) (s : State) (shows : OfEach x (λ p. Shows p x n s)) where
+  pub answer_kept : (r : Result Dump E) → ((p : Program) (c : Config) → StandsAt s p c → IfOk r (λ d. Pictures (image c name) d)) → IfOk r (λ d. IsContained d) → IfOk r (λ d. KeptState m d)
+  answer_kept (Ok d) pictured contained = state_kept m whole valid limits x of deep n s shows d pictured contained
+  answer_kept (Err e) pictured contained = tt
+
+  pub answer_shown : (r : Result Dump E) → ((p : Program) (c : Config) → StandsAt s p c → IfOk r (λ d. Pictures (image c name) d)) → IfOk r (λ d. IsContained d) → IfOk r (λ d. OfEach x (λ p. ShowsStep p x n d))
+  answer_shown (Ok d) pictured contained = step_shown m whole valid limits x of deep n s shows d pictured contained
+  answer_shown (Err e) pictured contained = tt

@@ -1,6 +1,7 @@
 -- Moves and looks, one after the other.
 use Rattle.std.proofs.Common.{◌≡◌, ℕ, ◌-◌, min, true, false, List, [], ◌∷◌, ◌++◌, refl, sym, ap, ap₂, subst, ◌∙◌, append_assoc, inl, inr}
-use Rattle.std.specs.Prelude.{codes, OnOk, Result, Ok, Err}
+use Rattle.std.specs.Prelude.{codes, IfOk, OnOk, Result, Ok, Err}
+use Rattle.std.specs.Result.{result_and}
 use Rattle.std.specs.Fmt.{decimal}
 use Rattle.std.proofs.lemmas.List.{append-nil}
 use Rattle.wasm_syntax.specs.declared.module.ModuleParts.{ModuleParts as Module}
@@ -30,6 +31,15 @@ on_line (Err e) I P Q to h = tt
 pub on_ok_to : {E : Type 0} (r : Result (Unit {0}) E) (P Q : Type 0) → (P → Q) → OnOk r P → OnOk r Q
 on_ok_to (Ok x) P Q to h = to h
 on_ok_to (Err e) P Q to h = tt
+
+-- it hands out what was known before
+pub hands_out : {A E : Type 0} (r : Result (Unit {0}) E) (x : A) (P : A → Type 0) → OnOk r (P x) → IfOk (result_and r (Ok x)) P
+hands_out (Ok u) x P h = h
+hands_out (Err e) x P h = tt
+
+pub hands_any : {A E : Type 0} (r : Result (Unit {0}) E) (x : A) (P : A → Type 0) → P x → IfOk (result_and r (Ok x)) P
+hands_any (Ok u) x P h = h
+hands_any (Err e) x P h = tt
 
 -- ---- the line of a step
 

@@ -1,7 +1,6 @@
 //! The answer on the contents of two files.
 
 ghost use Rattle.std.specs.Prelude.{◌≡◌, ◌≤◌, ◌<◌, ◌^◌, IfOk, Some};
-ghost use Rattle.wasm_syntax.specs.Module.{IsModule};
 ghost use Rattle.host_replies.specs.Replies.{file_replies};
 ghost use Rattle.debugger.specs.Subject.{Spells};
 ghost use Rattle.run_command.specs.Starting.{cause_text, not_started_with};
@@ -53,28 +52,6 @@ fn not_started(alloc: Global, entry: &Text, fault: StartRefusal) -> Result<Outco
     })
 }
 
-/// What the commands print, as an answer.
-fn done(
-    alloc: Global,
-    replayer: &mut Replayer<'_>,
-    viewer: &mut Viewer<'_>,
-    commands: &str,
-) -> Result<Outcome, NoMemory>
-    requires module_ { viewer.old.module_ ≡ replayer.old.recording.module_ }
-    requires depth { replayer.old.recording.depth < 2 ^ 32 }
-    requires step { replayer.old.step ≡ 0 }
-    requires chosen { viewer.old.chosen ≡ 0 }
-    requires whole { IsModule replayer.old.recording.module_ }
-    ensures value { IfOk result (IsTold replayer.old.recording viewer.old.bytes commands.now) }
-    ensures ended { IfOk result (Ended (λ _. ⊥)) }
-{
-    let text = replayed(alloc, replayer, viewer, commands)?;
-    Ok(Outcome {
-        status: Status::Done,
-        text,
-    })
-}
-
 /// The answer where the run starts.
 fn told(
     alloc: Global,
@@ -90,7 +67,16 @@ fn told(
 {
     let _parts = source.module().parts();
     let mut viewer = Viewer::new(source, bytes);
-    done(alloc, &mut replayer, &mut viewer, commands)
+    let printed = replayed(alloc, &mut replayer, &mut viewer, commands);
+    drop(viewer);
+    drop(replayer);
+    match printed {
+        Ok(text) => Ok(Outcome {
+            status: Status::Done,
+            text,
+        }),
+        Err(NoMemory) => Err(NoMemory),
+    }
 }
 
 /// How many steps stand between two checkpoints at first, which are some.
@@ -152,7 +138,11 @@ fn on_log(
     ensures ended { IfOk result (Ended (λ _. ⊥)) }
 {
     match read_replies(alloc, log) {
-        Ok(replies) => on_replies(alloc, words, bytes, source, replies.as_slice()),
+        Ok(replies) => {
+            let answer = on_replies(alloc, words, bytes, source, replies.as_slice());
+            drop(replies);
+            answer
+        }
         Err(ReplyFault::Line(line)) => bad_replies(alloc, line),
         Err(ReplyFault::NoMemory) => Err(NoMemory),
     }

@@ -74,7 +74,6 @@ fn asked(
     ensures depth { IfOk result (λ r. (1 ≤ r.depth) × (r.depth ≤ 10000)) }
     ensures every { IfOk result (λ r. (1 ≤ r.every) × (r.every ≤ 1000000)) }
 {
-    let args = arguments(alloc, behind)?;
     let Some(fuel) = fuel(reading) else {
         return Err(WordsFault::Usage);
     };
@@ -89,11 +88,11 @@ fn asked(
         source: Text::from_str(alloc, source)?,
         log: Text::from_str(alloc, log)?,
         entry: Text::from_str(alloc, entry)?,
-        args,
+        commands: Text::from_str(alloc, commands)?,
+        args: arguments(alloc, behind)?,
         fuel,
         depth,
         every,
-        commands: Text::from_str(alloc, commands)?,
     })
 }
 

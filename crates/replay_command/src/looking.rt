@@ -17,6 +17,7 @@ use pm_text::Text;
 use replay::Replayer;
 use std::alloc::Global;
 use std::marker::Model;
+use std::mem;
 use trap_image::image;
 use wasm_validate::Validated;
 
@@ -102,8 +103,7 @@ fn shown_dump<'i>(
         ShowsStep p replayer.now.recording replayer.now.step d)) }
 {
     let _parts = source.module().parts();
-    let dump = image(alloc, replayer.state(), "module")?;
-    Ok(dump)
+    image(alloc, replayer.state(), "module")
 }
 
 impl<'a> Viewer<'a> {
@@ -119,12 +119,6 @@ impl<'a> Viewer<'a> {
             known: None,
             chosen: 0,
         }
-    }
-
-    fn source(&self) -> &'a Validated
-        ensures { result.now ≡ self.now.module_ }
-    {
-        self.source
     }
 
     /// The innermost frame is chosen.
@@ -154,10 +148,17 @@ impl<'a> Viewer<'a> {
         let matched = matched(alloc, self.source, dump);
         let known = self.known.take();
         let mut session = Session::on_state(alloc, self.bytes, known, matched, self.chosen)?;
-        let rest = push_looks(out, alloc, &mut session, commands)?;
-        self.chosen = session.chosen();
-        self.known = session.into_information();
-        Ok(rest)
+        match push_looks(out, alloc, &mut session, commands) {
+            Ok(rest) => {
+                self.chosen = session.chosen();
+                drop(mem::replace(&mut self.known, session.into_information()));
+                Ok(rest)
+            }
+            Err(NoMemory) => {
+                drop(session.into_information());
+                Err(NoMemory)
+            }
+        }
     }
 
     /// Adds what the commands before the first move print on the state that is shown, and hands out
@@ -177,7 +178,9 @@ impl<'a> Viewer<'a> {
             (left_in rest) replayer.now self.new out.new) }
         ensures shorter { IfOk result (λ rest. IsShorter rest commands.now) }
     {
-        let dump = shown_dump(alloc, self.source(), replayer)?;
-        self.look_at(out, alloc, &dump, commands)
+        let dump = shown_dump(alloc, self.source, replayer)?;
+        let rest = self.look_at(out, alloc, &dump, commands);
+        drop(dump);
+        rest
     }
 }

@@ -40,19 +40,6 @@ fn go(
     push_shown(out, replayer)
 }
 
-/// Goes one step back, or stays at the first one.
-fn go_back(
-    out: &mut Text,
-    replayer: &mut Replayer<'_>,
-    viewer: &mut Viewer<'_>,
-) -> Result<(), NoMemory>
-    ensures { OnOk result (Moves replayer.old viewer.old out.old moves.Back replayer.new viewer.new
-        out.new) }
-{
-    let step = replayer.step().saturating_sub(1);
-    go(out, replayer, viewer, step)
-}
-
 /// Goes to the next step at a place, or stays where there is none; then no frame is chosen anew.
 fn go_until(
     out: &mut Text,
@@ -91,22 +78,15 @@ fn take_turn<'c>(
 {
     let (given, behind) = first_command(commands);
     match read_move(given) {
-        Move::Goto { step } => {
-            go(out, replayer, viewer, step)?;
-            Ok(behind)
-        }
+        Move::Goto { step } => go(out, replayer, viewer, step).and(Ok(behind)),
         Move::Back => {
-            go_back(out, replayer, viewer)?;
-            Ok(behind)
+            let step = replayer.step().saturating_sub(1);
+            go(out, replayer, viewer, step).and(Ok(behind))
         }
         Move::Until { function, offset } => {
-            go_until(out, replayer, viewer, function, offset)?;
-            Ok(behind)
+            go_until(out, replayer, viewer, function, offset).and(Ok(behind))
         }
-        Move::Look => {
-            let rest = viewer.look(out, alloc, replayer, commands)?;
-            Ok(rest)
-        }
+        Move::Look => viewer.look(out, alloc, replayer, commands),
     }
 }
 

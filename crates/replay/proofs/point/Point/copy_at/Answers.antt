@@ -19,18 +19,18 @@ advance-requires c =
       );
     }
 
-pub returns-clause-reached : goal.returns-clause-reached
-returns-clause-reached c =
+pub returns-in-Ok-clause-reached : goal.returns-in-Ok-clause-reached
+returns-in-Ok-clause-reached c =
     let x = c.args.recorded.now in
     let q = c.args.self.now in
     let made = c.steps.ensures in
     let before = c.requires.before in
     let w = copy_stands x q.instance.steps FuelSpent q c.in_ok-copy.copy c.requires.waits c.in_ok-copy.ensures.same in
     let all : q.instance.steps + (c.args.step - c.steps.result) ≡ c.args.step = omega (arith, made, before) in
-    (c.in_ok-_answer._answer, subst (λ (n : ℕ). ReachedAt x n c.in_ok-_answer._answer c.advance.new.self) all (c.in_ok-_answer.ensures.came q.instance.steps w))
+    (c.in-Ok.answer, subst (λ (n : ℕ). ReachedAt x n c.in-Ok.answer c.advance.new.self) all (c.in-Ok.ensures.came q.instance.steps w))
 
-pub returns-clause-since : goal.returns-clause-since
-returns-clause-since c =
+pub returns-in-Ok-clause-since : goal.returns-in-Ok-clause-since
+returns-in-Ok-clause-since c =
     let made = c.steps.ensures in
     let before = c.requires.before in
     let since = c.advance.ensures.since in

@@ -1,4 +1,5 @@
 use Rattle.std.proofs.Common.{arith}
+use Rattle.std.proofs.lemmas.Result.{IfOk-weaker}
 use Rattle.replay.proofs.Moving.{goes_up_to}
 use Rattle.replay.proofs.track.Track.point_from.Goals as goal
 
@@ -19,5 +20,4 @@ returns-then-is_between-clause-near c =
     let kept = c.before-kept.ensures c.args.recorded.now r.covers.0 r.covers.1 r.covers.2 in
     let near = kept.near r.covers.3 in
     let steps = c.steps-made.ensures in
-    let since = c.in_ok-point.ensures.since in
-    omega (arith, made, le, near, steps, since)
+    IfOk-weaker c.copy_at.result _ _ (λ q since. omega (arith, made, le, near, steps, since)) c.copy_at.ensures.since

@@ -1,6 +1,6 @@
 use Rattle.std.proofs.Common.{◌-◌}
 use Rattle.replay.proofs.Moving.{Ahead}
-use Rattle.replay.proofs.ahead.next_at.Given as goal
+use Rattle.replay.proofs.ahead.looked_ahead.Given as goal
 
 abbrev pub invariant-steps : goal.invariant-steps
 invariant-steps l = Ahead l.recorded l.function l.offset l.from l.end l.step l.ahead

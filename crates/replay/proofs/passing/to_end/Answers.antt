@@ -1,7 +1,7 @@
 use Rattle.std.proofs.Common.{◌≢◌, ℕ, ◌+◌, ◌-◌, sym, ap, ◌∙◌}
 use Rattle.std.specs.Prelude.{min}
 use Rattle.replay.proofs.Pieces.{ends_here, spent_here, goes_on, shrinks, within_fuel}
-use Rattle.replay.proofs.passing.pass.Goals as goal
+use Rattle.replay.proofs.passing.to_end.Goals as goal
 
 pub returns-then-not-is_spent : goal.returns-then-not-is_spent
 returns-then-not-is_spent c =
