@@ -73,10 +73,20 @@ fn cover_bytes<D: Devices>(
     ensures ended { IfOk result (Ended (λ _. ⊥)) }
     ensures distinct { AreDistinct (names (D.shown devices.new)) }
 {
-    let loaded = load(alloc, bytes)?;
+    let Ok(loaded) = load(alloc, bytes) else {
+        drop(script);
+        return Err(NoMemory);
+    };
     match loaded {
-        Given::Value(source) => cover_scripted(alloc, words, bytes, &source, script, devices),
-        Given::Refused(refusal) => Ok(refusal),
+        Given::Value(source) => {
+            let outcome = cover_scripted(alloc, words, bytes, &source, script, devices);
+            drop(source);
+            outcome
+        }
+        Given::Refused(refusal) => {
+            drop(script);
+            Ok(refusal)
+        }
     }
 }
 

@@ -1,7 +1,8 @@
 //! The invocation on a valid module, with its steps counted.
 
-ghost use Rattle.std.specs.Prelude.{◌≡◌, ◌<◌, ◌^◌, ◌⊎◌, Ok, None, true, IfOk, OnErr};
+ghost use Rattle.std.specs.Prelude.{◌≡◌, ◌<◌, ◌^◌, ◌⊎◌, [], Ok, None, true, IfOk, OnErr};
 ghost use Rattle.wasm_decode.specs.Decode.{module_from};
+ghost use Rattle.machine_steps.specs.calls.Tallies.{Counted};
 ghost use Rattle.machine_hosted.specs.calls.Answers.{HasCause};
 ghost use Rattle.host_set.specs.Sets.{AreDistinct, names};
 ghost use Rattle.wasm_machine.specs.calls.Entries.{entry_fault};
@@ -55,7 +56,53 @@ fn invoke<H: HostSide>(
 }
 
 /// Invokes the function that the words name on a valid module, which these bytes spell, tells where
-/// its steps fell, and gives the devices back.
+/// its steps fell, and gives the devices back. The tally has counted nothing yet.
+fn cover_counted<D: Devices>(
+    alloc: Global,
+    words: &CoverWords,
+    bytes: &[u8],
+    source: &Validated,
+    script: Option<Items<Reply>>,
+    devices: &mut D,
+    tally: &mut Tally,
+) -> Result<Outcome, NoMemory>
+    requires distinct { AreDistinct (names (D.shown devices.old)) }
+    requires spells { module_from bytes.now ≡ Ok source.now }
+    requires counted { Counted source.now tally.old [] }
+    ensures told { IfOk result (IsAnswered
+        (λ given. ModuleAnswer (D.shown devices.old) (D.shown devices.new)
+        words.now given script bytes.now source.now)
+        (D.shown devices.old) (D.shown devices.new)) }
+    ensures stops { OnErr result ((D.shown devices.new ≡ D.shown devices.old)
+        ⊎ ModuleStops (D.shown devices.old) (D.shown devices.new) words.now source.now script) }
+    ensures ended { IfOk result (Ended (λ _. ⊥)) }
+    ensures distinct { AreDistinct (names (D.shown devices.new)) }
+{
+    let parts = source.module().parts();
+    let set = mem::replace(devices, D::empty(alloc));
+    let mut hosts = Hosts::new(alloc, set, script, parts.imports.as_slice());
+    let begun = begin(alloc, source, slice::from_ref(&words.called), &hosts);
+    let Ok(begun) = begun else {
+        *devices = hosts.into_devices();
+        return Err(NoMemory);
+    };
+    match begun {
+        Given::Value(mut instance) => {
+            let end = invoke(words, &mut instance, &mut hosts, tally);
+            drop(instance);
+            let outcome = answer_to(alloc, bytes, source, tally, &end, hosts.given());
+            drop(end);
+            *devices = hosts.into_devices();
+            outcome
+        }
+        Given::Refused(refusal) => {
+            *devices = hosts.into_devices();
+            Ok(refusal)
+        }
+    }
+}
+
+/// The same, with a tally of its own.
 pub(crate) fn cover_valid<D: Devices>(
     alloc: Global,
     words: &CoverWords,
@@ -75,25 +122,6 @@ pub(crate) fn cover_valid<D: Devices>(
     ensures ended { IfOk result (Ended (λ _. ⊥)) }
     ensures distinct { AreDistinct (names (D.shown devices.new)) }
 {
-    let parts = source.module().parts();
-    let mut tally = Tally::new(alloc, parts)?;
-    let set = mem::replace(devices, D::empty(alloc));
-    let mut hosts = Hosts::new(alloc, set, script, parts.imports.as_slice());
-    let begun = begin(alloc, source, slice::from_ref(&words.called), &hosts);
-    let Ok(begun) = begun else {
-        *devices = hosts.into_devices();
-        return Err(NoMemory);
-    };
-    match begun {
-        Given::Value(mut instance) => {
-            let end = invoke(words, &mut instance, &mut hosts, &mut tally);
-            let outcome = answer_to(alloc, bytes, source, &tally, &end, hosts.given());
-            *devices = hosts.into_devices();
-            outcome
-        }
-        Given::Refused(refusal) => {
-            *devices = hosts.into_devices();
-            Ok(refusal)
-        }
-    }
+    let mut tally = Tally::new(alloc, source.module().parts())?;
+    cover_counted(alloc, words, bytes, source, script, devices, &mut tally)
 }

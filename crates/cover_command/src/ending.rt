@@ -30,8 +30,7 @@ fn finished(alloc: Global, value: Option<Value>) -> Result<Text, NoMemory>
 {
     let mut text = Text::from_str(alloc, "finished")?;
     push_result(&mut text, value)?;
-    text.push_str("\n")?;
-    Ok(text)
+    text.push_str("\n").and(Ok(text))
 }
 
 /// The first line where the invocation trapped.
@@ -39,8 +38,7 @@ fn trapped(alloc: Global, kind: TrapKind) -> Result<Text, NoMemory>
     ensures { IfOk result (λ t. t ≡ kind_line (trap_code kind)) }
 {
     let mut text = Text::new(alloc);
-    push_kind(&mut text, kind.code())?;
-    Ok(text)
+    push_kind(&mut text, kind.code()).and(Ok(text))
 }
 
 /// Adds the lines that tell where the steps fell, by what the bytes of the module say of its source.
@@ -72,11 +70,10 @@ fn told(
         source.now tally.now first_line) }
 {
     let mut text = first_line;
-    push_told(&mut text, alloc, bytes, source, tally)?;
-    Ok(Outcome {
+    push_told(&mut text, alloc, bytes, source, tally).and(Ok(Outcome {
         status: Status::Done,
         text,
-    })
+    }))
 }
 
 /// The answer where a call of an import had no fitting reply, behind so many calls that were

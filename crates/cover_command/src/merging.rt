@@ -28,8 +28,7 @@ fn file_of(alloc: Global, lines: &Lines<'_>, number: u32) -> Result<Text, NoMemo
     ensures { IfOk result (λ t. t ≡ file_text lines.now (Some number)) }
 {
     let mut text = Text::new(alloc);
-    push_file(&mut text, alloc, lines, Some(u64::from(number)))?;
-    Ok(text)
+    push_file(&mut text, alloc, lines, Some(u64::from(number))).and(Ok(text))
 }
 
 /// The text that names the file of a line of a line program.

@@ -31,20 +31,20 @@ use std::alloc::Global;
 #[tactic(auto, unfolding(crate::specs::Answer::IsAnswer))]
 fn perform<F: Files, D: Devices>(
     alloc: Global,
-    asked: Command,
+    asked: &Command,
     files: &mut F,
     devices: &mut D,
 ) -> Result<Outcome, NoMemory>
     requires distinct { AreDistinct (names (D.shown devices.old)) }
-    requires bounds { HasBounds asked }
-    ensures told { (words : List (List ℕ)) → command words ≡ Some asked
+    requires bounds { HasBounds asked.now }
+    ensures told { (words : List (List ℕ)) → command words ≡ Some asked.now
         → IfOk result (λ o. UnlessFault o.status
         (Answered (D.shown devices.old) (D.shown devices.new)
         words (F.told files.old) (F.told files.new) o)) }
-    ensures stops { (words : List (List ℕ)) → command words ≡ Some asked
+    ensures stops { (words : List (List ℕ)) → command words ≡ Some asked.now
         → OnStop (λ stop. WordsStop stop words (D.shown devices.old) (D.shown devices.new)
         (F.told files.old) (F.told files.new)) result }
-    ensures quiet { (words : List (List ℕ)) → command words ≡ Some asked
+    ensures quiet { (words : List (List ℕ)) → command words ≡ Some asked.now
         → Quiet (command words) (D.shown devices.old) (D.shown devices.new)
         (F.told files.old) (F.told files.new) (F.created files.old) (F.created files.new) }
     ensures distinct { AreDistinct (names (D.shown devices.new)) }
@@ -53,15 +53,15 @@ fn perform<F: Files, D: Devices>(
 {
     match asked {
         Command::Check { module } => check_file(alloc, files, module.as_str()),
-        Command::Run(words) => run_file(alloc, files, &words, devices),
+        Command::Run(words) => run_file(alloc, files, words, devices),
         Command::Instrument { module, out } => {
             instrument_file(alloc, files, module.as_str(), out.as_str())
         }
         Command::Show { dump } => show_file(alloc, files, dump.as_str()),
-        Command::Debug(words) => debug_file(alloc, files, &words),
-        Command::Selftest { count } => selftest_files::<F, D>(alloc, files, count),
-        Command::Replay(words) => replay_file(alloc, files, &words),
-        Command::Cover(words) => cover_file(alloc, files, &words, devices),
+        Command::Debug(words) => debug_file(alloc, files, words),
+        Command::Selftest { count } => selftest_files::<F, D>(alloc, files, *count),
+        Command::Replay(words) => replay_file(alloc, files, words),
+        Command::Cover(words) => cover_file(alloc, files, words, devices),
     }
 }
 
@@ -87,7 +87,11 @@ pub fn respond<F: Files, D: Devices>(
     ensures ended { IfOk result (Ended (λ _. Rose (F.faults files.old) (F.faults files.new))) }
 {
     match parse_words(alloc, words) {
-        Ok(asked) => perform(alloc, asked, files, devices),
+        Ok(asked) => {
+            let answer = perform(alloc, &asked, files, devices);
+            drop(asked);
+            answer
+        }
         Err(WordsFault::Usage) => plain(
             alloc,
             Status::Usage,

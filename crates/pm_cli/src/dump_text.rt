@@ -108,15 +108,21 @@ fn push_head(out: &mut Text, dump: &Dump<'_>) -> Result<(), NoMemory>
     out.push_str("\n")
 }
 
-/// The text that shows a dump.
+/// Adds the lines that show a dump.
 #[tactic(auto, unfolding(crate::specs::Show::show_text))]
+fn push_dump(out: &mut Text, dump: &Dump<'_>) -> Result<(), NoMemory>
+    ensures { OnOk result (out.new ≡ out.old ++ show_text dump.now) }
+{
+    push_head(out, dump)?;
+    push_frames(out, dump.frames.as_slice())?;
+    push_memory(out, dump.memory)?;
+    push_globals(out, dump.globals.as_slice())
+}
+
+/// The text that shows a dump.
 pub fn show(alloc: Global, dump: &Dump<'_>) -> Result<Text, NoMemory>
     ensures { IfOk result (λ t. t ≡ show_text dump.now) }
 {
     let mut out = Text::new(alloc);
-    push_head(&mut out, dump)?;
-    push_frames(&mut out, dump.frames.as_slice())?;
-    push_memory(&mut out, dump.memory)?;
-    push_globals(&mut out, dump.globals.as_slice())?;
-    Ok(out)
+    push_dump(&mut out, dump).and(Ok(out))
 }

@@ -2,9 +2,9 @@
 
 ghost use Rattle.std.specs.Prelude.{◌≡◌, map, None, Some, IfOk};
 ghost use Rattle.std.specs.String.{string_bytes};
-ghost use Rattle.pm_cli.specs.Words.{one_word, instrument_words, command, HasBounds};
+ghost use Rattle.pm_cli.specs.Words.{one_word, both, instrument_words, command, HasBounds};
 
-use commands::{Options, WordsFault, read_words};
+use commands::{Options, Reading, WordsFault, read_words};
 use debug_command::{DebugWords, debug_words};
 use pm_text::Text;
 use replay_command::{ReplayWords, replay_words};
@@ -48,6 +48,21 @@ fn one_word(alloc: Global, words: &[String]) -> Result<Text, WordsFault>
     }
 }
 
+/// The file that is read and the one that is written, where there are two plain words.
+fn both_words(alloc: Global, reading: &Reading<'_>) -> Result<Command, WordsFault>
+    ensures ok { IfOk result (λ c. both reading.now.plain ≡ Some c) }
+    ensures usage { result ≡ Err WordsFault.Usage → both reading.now.plain ≡ None }
+    ensures bounds { IfOk result HasBounds }
+{
+    match reading.plain() {
+        [module, out] => Ok(Command::Instrument {
+            module: Text::from_str(alloc, module)?,
+            out: Text::from_str(alloc, out)?,
+        }),
+        _ => Err(WordsFault::Usage),
+    }
+}
+
 /// The file that is read and the one that is written, behind `instrument`.
 #[tactic(auto, unfolding(crate::specs::Words::instrument_words))]
 fn instrument_words(alloc: Global, words: &[String]) -> Result<Command, WordsFault>
@@ -59,13 +74,7 @@ fn instrument_words(alloc: Global, words: &[String]) -> Result<Command, WordsFau
     let Some(reading) = read_words(alloc, words, &Options::none())? else {
         return Err(WordsFault::Usage);
     };
-    match reading.plain() {
-        [module, out] => Ok(Command::Instrument {
-            module: Text::from_str(alloc, module)?,
-            out: Text::from_str(alloc, out)?,
-        }),
-        _ => Err(WordsFault::Usage),
-    }
+    both_words(alloc, &reading)
 }
 
 /// The command that the words behind the program's name ask for.
@@ -82,17 +91,29 @@ pub fn parse_words(alloc: Global, words: &[String]) -> Result<Command, WordsFaul
         "check" => Ok(Command::Check {
             module: one_word(alloc, words)?,
         }),
-        "run" => Ok(Command::Run(run_words(alloc, words)?)),
+        "run" => match run_words(alloc, words) {
+            Ok(words) => Ok(Command::Run(words)),
+            Err(fault) => Err(fault),
+        },
         "instrument" => instrument_words(alloc, words),
         "show" => Ok(Command::Show {
             dump: one_word(alloc, words)?,
         }),
-        "debug" => Ok(Command::Debug(debug_words(alloc, words)?)),
+        "debug" => match debug_words(alloc, words) {
+            Ok(words) => Ok(Command::Debug(words)),
+            Err(fault) => Err(fault),
+        },
         "selftest" => Ok(Command::Selftest {
             count: selftest_words(alloc, words)?,
         }),
-        "replay" => Ok(Command::Replay(replay_words(alloc, words)?)),
-        "cover" => Ok(Command::Cover(cover_words(alloc, words)?)),
+        "replay" => match replay_words(alloc, words) {
+            Ok(words) => Ok(Command::Replay(words)),
+            Err(fault) => Err(fault),
+        },
+        "cover" => match cover_words(alloc, words) {
+            Ok(words) => Ok(Command::Cover(words)),
+            Err(fault) => Err(fault),
+        },
         _ => Err(WordsFault::Usage),
     }
 }

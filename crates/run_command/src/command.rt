@@ -86,10 +86,20 @@ fn run_bytes<F: Files, D: Devices>(
         (F.created files.new) }
     ensures files { FilesGoOn F.told F.faults files.old files.new }
 {
-    let loaded = load(alloc, bytes)?;
+    let Ok(loaded) = load(alloc, bytes) else {
+        drop(script);
+        return Err(NoMemory);
+    };
     match loaded {
-        Given::Value(source) => run_scripted(alloc, files, words, &source, script, devices),
-        Given::Refused(refusal) => Ok(refusal),
+        Given::Value(source) => {
+            let outcome = run_scripted(alloc, files, words, &source, script, devices);
+            drop(source);
+            outcome
+        }
+        Given::Refused(refusal) => {
+            drop(script);
+            Ok(refusal)
+        }
     }
 }
 

@@ -144,6 +144,7 @@ pub(crate) fn run_valid<F: Files, D: Devices>(
         Given::Value(mut instance) => {
             let (ran, hosts) = run_all(alloc, files, words, &mut instance, hosts);
             let outcome = recorded(alloc, files, &words.log_to, &instance, &hosts, ran);
+            drop(instance);
             *devices = hosts.into_devices();
             outcome
         }

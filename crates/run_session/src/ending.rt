@@ -21,8 +21,7 @@ fn no_reply(alloc: Global, call: u64) -> Result<Text, NoMemory>
     ensures { IfOk result (λ t. t ≡ host_stopped (codes "no reply for call " ++ decimal call)) }
 {
     let mut text = numbered(alloc, "host stopped: no reply for call ", call)?;
-    text.push_str("\n")?;
-    Ok(text)
+    text.push_str("\n").and(Ok(text))
 }
 
 /// The line where the reply of a number does not fit.
@@ -32,8 +31,7 @@ fn misfit(alloc: Global, number: u64) -> Result<Text, NoMemory>
 {
     let mut text = numbered(alloc, "host stopped: reply ", number)?;
     text.push_str(" does not fit")?;
-    text.push_str("\n")?;
-    Ok(text)
+    text.push_str("\n").and(Ok(text))
 }
 
 /// The line where a device failed.
@@ -43,8 +41,7 @@ fn device_failed(alloc: Global, device: &Text) -> Result<Text, NoMemory>
 {
     let mut text = Text::from_str(alloc, "host stopped: device ")?;
     text.push_quoted(device.as_bytes())?;
-    text.push_str("\n")?;
-    Ok(text)
+    text.push_str("\n").and(Ok(text))
 }
 
 /// The last line, behind so many replies and with so many invocations that were not begun. Empty
@@ -117,11 +114,10 @@ pub(crate) fn torn_with(lines: Lines, at: usize) -> Result<Outcome, NoMemory>
     ensures { IfOk result (λ o. o ≡ ended Status.TornCalls (lines.text ++ torn_text at)) }
 {
     let mut text = lines.text;
-    push_torn(&mut text, at)?;
-    Ok(Outcome {
+    push_torn(&mut text, at).and(Ok(Outcome {
         status: Status::TornCalls,
         text,
-    })
+    }))
 }
 
 /// What is answered where all invocations were made.

@@ -98,6 +98,5 @@ pub(crate) fn not_invoked(alloc: Global, count: usize) -> Result<Text, NoMemory>
         return Ok(Text::new(alloc));
     }
     let mut text = numbered(alloc, "not invoked ", count as u64)?;
-    text.push_str("\n")?;
-    Ok(text)
+    text.push_str("\n").and(Ok(text))
 }

@@ -41,7 +41,10 @@ fn at_end<'a>(handed: Handed<'a>) -> Shown<'a>
 {
     match handed {
         Handed::Nothing => Shown::AsRun,
-        Handed::Whole(_) => Shown::Torn { at: 0 },
+        Handed::Whole(collected) => {
+            drop(collected);
+            Shown::Torn { at: 0 }
+        }
         Handed::Torn { at } => Shown::Torn { at },
     }
 }
@@ -77,6 +80,9 @@ pub fn shown_by<'a>(answer: &RunEnd, handed: Handed<'a>) -> Shown<'a>
     match answer {
         RunEnd::Finished { .. } => at_end(handed),
         RunEnd::Trapped { kind } => at_trap(*kind, handed),
-        _ => Shown::AsRun,
+        _ => {
+            drop(handed);
+            Shown::AsRun
+        }
     }
 }

@@ -17,7 +17,6 @@ ghost use Rattle.run_session.specs.inner.Turns.{CameTo, TellsIt};
 use crate::{Shown, handed_over, shown_by};
 use causes::NoMemory;
 use dump_format::Dump;
-use host_collector::Collected;
 use machine_hosted::RunEnd;
 use run_words::RunWords;
 use std::alloc::Global;
@@ -86,7 +85,10 @@ fn with_calls<'a>(
     let handed = handed_over(alloc, calls, instance.memory(), name)?;
     match shown_by(answer, handed) {
         Shown::AsRun => without_calls(alloc, name, instance, answer),
-        Shown::Collected(Collected { kind, dump }) => Ok(Told::Trap { kind, dump }),
+        Shown::Collected(collected) => Ok(Told::Trap {
+            kind: collected.kind,
+            dump: collected.dump,
+        }),
         Shown::NoDump { kind } => Ok(Told::BareTrap { kind: kind.code() }),
         Shown::Torn { at } => Ok(Told::Torn { at }),
     }

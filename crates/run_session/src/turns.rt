@@ -12,7 +12,8 @@ ghost use Rattle.run_session.specs.Telling.{Telling, HasDump, tells};
 ghost use Rattle.run_session.specs.RunText.{dump_name};
 ghost use Rattle.run_session.specs.calls.Creating.{MayCreate};
 ghost use Rattle.run_session.specs.inner.Dumping.{IsTold, IfDump, AddsTold, LeavesDump, torn_at};
-ghost use Rattle.run_session.specs.inner.Turns.{turn_of, turn_by, UnlessRefused, IfGoesOn, IfEnds, IfTurnRefused, Added};
+ghost use Rattle.run_session.specs.inner.Turns.{turn_of, turn_by, UnlessRefused, IfGoesOn, IfEnds};
+ghost use Rattle.run_session.specs.inner.Turns.{IfTurnRefused, Added};
 ghost use Rattle.run_session.specs.inner.Turns.{LeavesPart, Dumps};
 ghost use Rattle.pm_outside.specs.calls.Kept.{FilesGoOn};
 
@@ -195,7 +196,9 @@ fn add_invocation<F: Files>(
     ensures files { FilesGoOn F.told F.faults files.old files.new }
 {
     let told = tell(alloc, words, instance, answer, outside.collected)?;
-    add_told(alloc, files, words, &told, outside.calls, lines)
+    let added = add_told(alloc, files, words, &told, outside.calls, lines);
+    drop(told);
+    added
 }
 
 /// Adds the lines of an invocation with this answer, which left the instance so, and says how the

@@ -19,5 +19,7 @@ pub fn selftest_bytes(alloc: Global, count: u32) -> Result<Vec<u8>, NoMemory>
     ensures same { IfOk result (λ _. DecodesSame (selftest count) (encoding (selftest count))) }
 {
     let made = selftest_module(alloc, count)?;
-    encode(alloc, &made)
+    let bytes = encode(alloc, &made);
+    drop(made);
+    bytes
 }

@@ -84,7 +84,9 @@ fn test_module<F: Files, D: Devices>(
     let rewritten = rewrite(alloc, source)?;
     match rewritten {
         Given::Value(other) => {
-            test_rewritten::<F, D>(alloc, files, bytes, source, &other, count)
+            let outcome = test_rewritten::<F, D>(alloc, files, bytes, source, &other, count);
+            drop(other);
+            outcome
         },
         Given::Refused(refusal) => Ok(refusal),
     }
@@ -114,7 +116,11 @@ fn test_bytes<F: Files, D: Devices>(
 {
     let loaded = load(alloc, bytes)?;
     match loaded {
-        Given::Value(source) => test_module::<F, D>(alloc, files, bytes, &source, count),
+        Given::Value(source) => {
+            let outcome = test_module::<F, D>(alloc, files, bytes, &source, count);
+            drop(source);
+            outcome
+        }
         Given::Refused(refusal) => Ok(refusal),
     }
 }
@@ -146,5 +152,7 @@ pub fn selftest_files<F: Files, D: Devices>(
         (F.created files.old) (F.created files.new) }
 {
     let bytes = selftest_bytes(alloc, count)?;
-    test_bytes::<F, D>(alloc, files, &bytes, count)
+    let outcome = test_bytes::<F, D>(alloc, files, &bytes, count);
+    drop(bytes);
+    outcome
 }

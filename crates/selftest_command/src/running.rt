@@ -141,7 +141,11 @@ pub(crate) fn run_bytes<D: Devices>(
 {
     let loaded = load(alloc, bytes)?;
     match loaded {
-        Given::Value(source) => run_module::<D>(alloc, &source, count, own),
+        Given::Value(source) => {
+            let outcome = run_module::<D>(alloc, &source, count, own);
+            drop(source);
+            outcome
+        }
         Given::Refused(refusal) => Ok(refusal),
     }
 }

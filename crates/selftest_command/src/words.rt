@@ -2,7 +2,7 @@
 
 ghost use Rattle.std.specs.Prelude.{◌≡◌, ◌≤◌, map, None, Some, IfOk, IfSome};
 ghost use Rattle.std.specs.String.{string_bytes};
-ghost use Rattle.selftest_command.specs.Words.{count, selftest_words};
+ghost use Rattle.selftest_command.specs.Words.{count, only_count, selftest_words};
 
 use commands::{Options, WordsFault, read_words};
 use pm_text::read_decimal;
@@ -18,6 +18,17 @@ fn count(digits: &str) -> Option<u32>
         Some(number as u32)
     } else {
         None
+    }
+}
+
+/// The number that the one plain word spells.
+fn only_count(words: &[&str]) -> Option<u32>
+    ensures value { result ≡ only_count (map (λ w. w.now) words.now) }
+    ensures bounds { IfSome result (λ n. (1 ≤ n) × (n ≤ 900)) }
+{
+    match words {
+        [word] => count(word),
+        _ => None,
     }
 }
 
@@ -37,10 +48,7 @@ pub fn selftest_words(alloc: Global, words: &[String]) -> Result<u32, WordsFault
     let Some(reading) = read_words(alloc, words, &Options::none())? else {
         return Err(WordsFault::Usage);
     };
-    let [word] = reading.plain() else {
-        return Err(WordsFault::Usage);
-    };
-    match count(word) {
+    match only_count(reading.plain()) {
         Some(number) => Ok(number),
         None => Err(WordsFault::Usage),
     }

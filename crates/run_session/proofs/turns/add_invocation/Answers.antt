@@ -11,16 +11,16 @@ returns-in_err-told-clause-part g c = λ deliver is_delivery.
 
 pub returns-clause-part : goal.returns-clause-part
 returns-clause-part g c = λ deliver is_delivery.
-    told_part (tells c.args.words.now.collect deliver) (behaves c.args.words.now.collect deliver) c.args.words.now.collect c.args.words.now.dump c.args.words.now.name c.args.instance.now c.args.answer.now c.args.outside.now.collected.now c.in_ok-told.told (c.in_ok-told.ensures.told deliver is_delivery) (g.F.Files.told c.args.files.now) (g.F.Files.told c.add_told.new.files) c.args.lines.now.traps c.add_told.ensures.front
+    told_part (tells c.args.words.now.collect deliver) (behaves c.args.words.now.collect deliver) c.args.words.now.collect c.args.words.now.dump c.args.words.now.name c.args.instance.now c.args.answer.now c.args.outside.now.collected.now c.in_ok-told.told (c.in_ok-told.ensures.told deliver is_delivery) (g.F.Files.told c.args.files.now) (g.F.Files.told c.add_told-added.new.files) c.args.lines.now.traps c.add_told-added.ensures.front
 
 pub returns-clause-added : goal.returns-clause-added
 returns-clause-added g c = λ deliver is_delivery.
-    all_added (tells c.args.words.now.collect deliver) (behaves c.args.words.now.collect deliver) c.args.words.now.collect c.args.words.now.dump c.args.words.now.name c.args.instance.now c.args.answer.now c.args.outside.now.collected.now c.in_ok-told.told (c.in_ok-told.ensures.told deliver is_delivery) (g.F.Files.told c.args.files.now) (g.F.Files.told c.add_told.new.files)
-    c.args.outside.now.calls c.args.lines.now c.add_told.new.lines c.add_told.result c.in_ok-told.ensures.memory c.add_told.ensures.added c.add_told.ensures.torn
+    all_added (tells c.args.words.now.collect deliver) (behaves c.args.words.now.collect deliver) c.args.words.now.collect c.args.words.now.dump c.args.words.now.name c.args.instance.now c.args.answer.now c.args.outside.now.collected.now c.in_ok-told.told (c.in_ok-told.ensures.told deliver is_delivery) (g.F.Files.told c.args.files.now) (g.F.Files.told c.add_told-added.new.files)
+    c.args.outside.now.calls c.args.lines.now c.add_told-added.new.lines c.add_told-added.result c.in_ok-told.ensures.memory c.add_told-added.ensures.added c.add_told-added.ensures.torn
 
 pub returns-clause-dumped : goal.returns-clause-dumped
 returns-clause-dumped g c = λ deliver is_delivery.
-    all_dumped (tells c.args.words.now.collect deliver) (behaves c.args.words.now.collect deliver) c.args.words.now.collect c.args.words.now.dump c.args.words.now.name c.args.instance.now c.args.answer.now c.args.outside.now.collected.now c.in_ok-told.told (c.in_ok-told.ensures.told deliver is_delivery) (g.F.Files.told c.args.files.now) (g.F.Files.told c.add_told.new.files) c.add_told.result c.add_told.ensures.dumped
+    all_dumped (tells c.args.words.now.collect deliver) (behaves c.args.words.now.collect deliver) c.args.words.now.collect c.args.words.now.dump c.args.words.now.name c.args.instance.now c.args.answer.now c.args.outside.now.collected.now c.in_ok-told.told (c.in_ok-told.ensures.told deliver is_delivery) (g.F.Files.told c.args.files.now) (g.F.Files.told c.add_told-added.new.files) c.add_told-added.result c.add_told-added.ensures.dumped
 
 pub returns-clause-memory : goal.returns-clause-memory
-returns-clause-memory g c = whatever_is_given c.add_told.result (c.args.answer.now ≡ NoMemory → ⊥) c.in_ok-told.ensures.memory
+returns-clause-memory g c = whatever_is_given c.add_told-added.result (c.args.answer.now ≡ NoMemory → ⊥) c.in_ok-told.ensures.memory

@@ -14,23 +14,23 @@ both : {A E : Type 0} (r : Result A E) (P Q R : A → Type 0) → ((x : A) → P
 both (Ok x) P Q R f p q = f x p q
 both (Err e) P Q R f p q = tt
 
-pub encode-requires : goal.encode-requires
-encode-requires c = subst (λ m. length (encoding m) ≤ 134217728) (sym c.in_ok-made.ensures.is) (omega (arith, few_bytes c.args.count c.requires.most))
+pub encode-bytes-requires : goal.encode-bytes-requires
+encode-bytes-requires c = subst (λ m. length (encoding m) ≤ 134217728) (sym c.in_ok-made.ensures.is) (omega (arith, few_bytes c.args.count c.requires.most))
 
 pub returns-clause-exact : goal.returns-clause-exact
 returns-clause-exact c =
     let m = c.in_ok-made.made in
-    both c.encode.result (λ bytes. bytes.items ≡ encoding m) (λ bytes. bytes.items ≡ encoding m) (λ bytes. bytes.items ≡ encoding (selftest c.args.count))
-    (λ bytes exact again. exact ∙ ap encoding c.in_ok-made.ensures.is) c.encode.ensures.exact c.encode.ensures.exact
+    both c.encode-bytes.result (λ bytes. bytes.items ≡ encoding m) (λ bytes. bytes.items ≡ encoding m) (λ bytes. bytes.items ≡ encoding (selftest c.args.count))
+    (λ bytes exact again. exact ∙ ap encoding c.in_ok-made.ensures.is) c.encode-bytes.ensures.exact c.encode-bytes.ensures.exact
 
 pub returns-clause-same : goal.returns-clause-same
 returns-clause-same c =
     let n = c.args.count in
     let m = c.in_ok-made.made in
     let few = within n c.requires.most in
-    both c.encode.result (λ bytes. WithinLimits m → SpellsSame m bytes.items) (λ bytes. bytes.items ≡ encoding m) (λ bytes. DecodesSame (selftest n) (encoding (selftest n)))
+    both c.encode-bytes.result (λ bytes. WithinLimits m → SpellsSame m bytes.items) (λ bytes. bytes.items ≡ encoding m) (λ bytes. DecodesSame (selftest n) (encoding (selftest n)))
     (λ bytes spelled exact.
     let made : SpellsSame m bytes.items = spelled (subst WithinLimits (sym c.in_ok-made.ensures.is) few) in
     let same : SpellsSame (selftest n) (encoding (selftest n)) = subst (λ x. SpellsSame x (encoding x)) c.in_ok-made.ensures.is (subst (SpellsSame m) exact made) in
     spelled_decodes (selftest n) (encoding (selftest n)) few (omega (arith, few_bytes n c.requires.most)) same)
-    c.encode.ensures.spelled c.encode.ensures.exact
+    c.encode-bytes.ensures.spelled c.encode-bytes.ensures.exact
