@@ -2,14 +2,10 @@
 //! those that llvm-dwarfdump prints, and the steps of each line are the instructions between its
 //! row and the next one.
 
-use crate::trial::{answers, files_of};
-use std::alloc::Global;
+use crate::trial::{Row, first_wrong};
 use test_modules::{DIVISION, EMPTY, READING, SOURCE};
 
-/// A module, replies, the words, the status and the text.
-type Row = (&'static [u8], &'static str, &'static str, u8, &'static str);
-
-const ROWS: [Row; 10] = [
+const ROWS: [Row<'static>; 10] = [
     (
         &SOURCE,
         "",
@@ -64,16 +60,7 @@ const ROWS: [Row; 10] = [
     (&EMPTY, "", "n f", 3, "no file: \"n\"\n"),
 ];
 
-fn is_covered(alloc: Global, row: &Row) -> bool {
-    match files_of(alloc, row.0, row.1) {
-        Ok(mut files) => answers(alloc, ["cover", row.2], &mut files, (row.3, row.4)),
-        Err(_) => false,
-    }
-}
-
 #[test]
 fn steps_are_counted_by_lines(rt: HostRuntime) {
-    for row in &ROWS {
-        assert!(rt; is_covered(rt.alloc(), row), "{}", row.2);
-    }
+    assert_eq!(rt; first_wrong(rt.alloc(), "cover", &ROWS), None);
 }

@@ -1,7 +1,6 @@
 //! A run that is recorded, and replayed by what was recorded.
 
 use crate::trial::{answers, answers_with, files_of};
-use pm_outside::MemFiles;
 use std::alloc::Global;
 use test_modules::READING;
 
@@ -13,24 +12,22 @@ const TRAPPED: &str = "trap 1 unreachable\nat function 1 offset 5\nhost calls 1\
 const MOVED: &str =
     "step 2 of 3\noperand 0 i32:9\n00000010: 0a 0b 03 04\nstep 3 of 3 trap 1 unreachable\n";
 
-fn is_recorded(alloc: Global, files: &mut MemFiles) -> bool {
-    let line = ["run m f --replies r", "--record log"];
-    answers(alloc, line, files, (1, TRAPPED))
-        && files.get("log") == Some("i32:9 16=0a0b0304\n".as_bytes())
-}
+const RECORD: [&str; 2] = ["run m f --replies r", "--record log"];
 
-fn is_replayed(alloc: Global, files: &mut MemFiles) -> bool {
-    let moves = "goto 2;operands;x 16 4;goto 9";
-    answers_with(alloc, "replay m log f --do", moves, files, (0, MOVED))
+const MOVES: &str = "goto 2;operands;x 16 4;goto 9";
+
+fn is_recorded(alloc: Global) -> bool {
+    match files_of(alloc, &READING, REPLIES.as_bytes()) {
+        Ok(mut files) => {
+            answers(alloc, RECORD, &mut files, (1, TRAPPED))
+                && files.get("log") == Some(b"i32:9 16=0a0b0304\n".as_slice())
+                && answers_with(alloc, "replay m log f --do", MOVES, &mut files, (0, MOVED))
+        }
+        Err(_) => false,
+    }
 }
 
 #[test]
 fn a_recorded_run_is_replayed(rt: HostRuntime) {
-    match files_of(rt.alloc(), &READING, REPLIES) {
-        Ok(mut files) => {
-            assert!(rt; is_recorded(rt.alloc(), &mut files));
-            assert!(rt; is_replayed(rt.alloc(), &mut files));
-        }
-        Err(_) => assert!(rt; false),
-    }
+    assert!(rt; is_recorded(rt.alloc()));
 }

@@ -1,7 +1,7 @@
 //! The command `replay`: moves between the steps of a run, and commands on the states that are
 //! shown. What is wanted was worked out by hand.
 
-use crate::trial::{answers, answers_with, files_of};
+use crate::trial::{Row, answers_with, files_of, first_wrong};
 use std::alloc::Global;
 use test_modules::{DIVISION, READING};
 
@@ -9,9 +9,9 @@ const REPLIES: &str = "i32:9 16=01020304\n";
 
 /// A module, the words in front of the last one, which is the text of the commands, and what these
 /// print.
-type Row = (&'static [u8], &'static str, &'static str, &'static str);
+type Moves = (&'static [u8], &'static str, &'static str, &'static str);
 
-const ROWS: [Row; 6] = [
+const MOVES: [Moves; 6] = [
     (
         &DIVISION,
         "replay m r div i32:8 i32:2 --do",
@@ -50,42 +50,46 @@ const ROWS: [Row; 6] = [
     ),
 ];
 
-fn is_replayed(alloc: Global, row: &Row) -> bool {
-    match files_of(alloc, row.0, REPLIES) {
+fn is_replayed(alloc: Global, row: &Moves) -> bool {
+    match files_of(alloc, row.0, REPLIES.as_bytes()) {
         Ok(mut files) => answers_with(alloc, row.1, row.2, &mut files, (0, row.3)),
         Err(_) => false,
     }
 }
 
-#[test]
-fn moves_show_states(rt: HostRuntime) {
-    for row in &ROWS {
-        assert!(rt; is_replayed(rt.alloc(), row), "{} {}", row.1, row.2);
-    }
-}
-
-/// Replies, words, the status and the text.
-const ANSWERS: [(&str, &str, u8, &str); 8] = [
-    ("", "m r f", 0, "step 0 of 2\n"),
-    (REPLIES, "m r f --do=bt", 0, "#0 ? (function 1 offset 1)\n"),
-    ("", "m r f --do goto", 0, "bad command\n"),
-    ("i32", "m r f", 17, "bad replies at line 1\n"),
-    ("", "m r f i32:1", 8, "not started: arguments\n"),
-    ("", "m r g", 8, "not started: export \"g\"\n"),
-    ("", "m s f", 3, "no file: \"s\"\n"),
-    ("", "n r f", 3, "no file: \"n\"\n"),
+const ANSWERS: [Row<'static>; 8] = [
+    (&READING, "", "m r f", 0, "step 0 of 2\n"),
+    (
+        &READING,
+        REPLIES,
+        "m r f --do=bt",
+        0,
+        "#0 ? (function 1 offset 1)\n",
+    ),
+    (&READING, "", "m r f --do goto", 0, "bad command\n"),
+    (&READING, "i32", "m r f", 17, "bad replies at line 1\n"),
+    (&READING, "", "m r f i32:1", 8, "not started: arguments\n"),
+    (&READING, "", "m r g", 8, "not started: export \"g\"\n"),
+    (&READING, "", "m s f", 3, "no file: \"s\"\n"),
+    (&READING, "", "n r f", 3, "no file: \"n\"\n"),
 ];
 
-fn is_answered(alloc: Global, row: &(&str, &str, u8, &str)) -> bool {
-    match files_of(alloc, &READING, row.0) {
-        Ok(mut files) => answers(alloc, ["replay", row.1], &mut files, (row.2, row.3)),
-        Err(_) => false,
+/// The number of the first row that does not hold, if there is one.
+fn first_wrong_moves(alloc: Global, rows: &[Moves]) -> Option<usize> {
+    for (number, row) in rows.iter().enumerate() {
+        if !is_replayed(alloc, row) {
+            return Some(number);
+        }
     }
+    None
+}
+
+#[test]
+fn moves_show_states(rt: HostRuntime) {
+    assert_eq!(rt; first_wrong_moves(rt.alloc(), &MOVES), None);
 }
 
 #[test]
 fn a_replay_is_refused_or_told(rt: HostRuntime) {
-    for row in &ANSWERS {
-        assert!(rt; is_answered(rt.alloc(), row), "{}", row.1);
-    }
+    assert_eq!(rt; first_wrong(rt.alloc(), "replay", &ANSWERS), None);
 }

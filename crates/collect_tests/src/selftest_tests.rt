@@ -2,12 +2,13 @@
 //! written by a program apart from this one, which told how many bytes they have, the sums of
 //! these, and the code offset of the division.
 
-use crate::trial::{answers, length, number_told};
+use crate::trial::{Fault, answers, first_wrong_fault, length, number_told};
 use host_set::DeviceSet;
-use pm_outside::{MemFiles, Part};
+use pm_outside::MemFiles;
 use pm_text::Text;
 use selftest_command::selftest_files;
 use std::alloc::Global;
+use test_modules::EMPTY;
 
 /// How many functions there are, the line but for the number of steps, what `run` tells of the
 /// trap, and the bytes of the first file.
@@ -64,57 +65,56 @@ fn text_of(alloc: Global, pieces: &[&str], numbers: &[u64]) -> Option<Text> {
     Some(text)
 }
 
+const FRONT: &str = "run selftest.inst.wasm --collect --dump b --fuel ";
+
+/// Whether the second file gets this within so many steps.
+fn runs_within(
+    alloc: Global,
+    files: &mut MemFiles,
+    main: &str,
+    steps: u64,
+    wanted: (u8, &str),
+) -> bool {
+    match text_of(alloc, &[FRONT, ""], &[steps]) {
+        Some(line) => answers(alloc, [line.as_str(), main], files, wanted),
+        None => false,
+    }
+}
+
 /// Whether `main` of the first file traps so, and so does that of the second one within so many
 /// steps, but not within one less, and hands the same dump over.
 fn runs(alloc: Global, files: &mut MemFiles, row: &Row, main: &str, steps: u64) -> bool {
-    let front = "run selftest.inst.wasm --collect --dump b --fuel ";
-    let Some(enough) = text_of(alloc, &[front, ""], &[steps]) else {
-        return false;
-    };
-    let Some(less) = text_of(alloc, &[front, ""], &[steps.saturating_sub(1)]) else {
-        return false;
-    };
-    answers(
-        alloc,
-        ["run selftest.wasm --dump a", main],
-        files,
-        (1, row.trap),
-    ) && answers(alloc, [less.as_str(), main], files, (10, "fuel spent\n"))
+    let trap = (1, row.trap);
+    let less = steps.saturating_sub(1);
+    answers(alloc, ["run selftest.wasm --dump a", main], files, trap)
+        && runs_within(alloc, files, main, less, (10, "fuel spent\n"))
         && files.get("b").is_none()
-        && answers(alloc, [enough.as_str(), main], files, (1, row.trap))
+        && runs_within(alloc, files, main, steps, trap)
         && files.get("a").is_some()
         && files.get("a") == files.get("b")
 }
 
-/// Whether a self-test tells that, and the files that it writes run so.
-fn tests_itself(alloc: Global, row: &Row) -> bool {
+/// Whether a self-test with this number tells that, and the files that it writes run so.
+fn tells(alloc: Global, row: &Row, count: &str, main: &str) -> bool {
     let mut files = MemFiles::new(alloc, Vec::new(alloc));
-    let count = u64::from(row.count);
-    let Some(words) = text_of(alloc, &["", ""], &[count]) else {
-        return false;
-    };
-    let Some(main) = text_of(alloc, &["main i32:", " i32:1"], &[count]) else {
-        return false;
-    };
-    match number_told(alloc, ["selftest", words.as_str()], &mut files, row.told) {
+    match number_told(alloc, count, &mut files, row.told) {
         Some(steps) => {
-            runs(alloc, &mut files, row, main.as_str(), steps)
+            runs(alloc, &mut files, row, main, steps)
                 && length(files.get("selftest.wasm")) == Some(row.length)
         }
         None => false,
     }
 }
 
-#[test]
-fn modules_test_themselves(rt: HostRuntime) {
-    for row in &ROWS {
-        assert!(rt; tests_itself(rt.alloc(), row), "{}", row.told);
+fn tests_itself(alloc: Global, row: &Row) -> bool {
+    let count = u64::from(row.count);
+    match text_of(alloc, &["", " main i32:", " i32:1"], &[count, count]) {
+        Some(line) => match line.as_str().split_once(' ') {
+            Some((count, main)) => tells(alloc, row, count, main),
+            None => false,
+        },
+        None => false,
     }
-}
-
-#[test]
-fn the_largest_module_tests_itself(rt: HostRuntime) {
-    assert!(rt; tests_itself(rt.alloc(), &MOST));
 }
 
 /// Whether the call by itself, tells the same as the command.
@@ -131,14 +131,9 @@ fn is_called(alloc: Global) -> bool {
     }
 }
 
-#[test]
-fn the_call_tells_what_the_command_does(rt: HostRuntime) {
-    assert!(rt; is_called(rt.alloc()));
-}
-
 /// The call of `Files` that fails, the file that is named, and how many bytes of each file are
 /// there. Each file is made, and its bytes are added at once, of which ten are taken.
-const FAULTS: [(u64, &str, Option<usize>, Option<usize>); 4] = [
+const FAULTS: [Fault<'static>; 4] = [
     (0, "file fault: \"selftest.wasm\"\n", None, None),
     (1, "file fault: \"selftest.wasm\"\n", Some(10), None),
     (2, "file fault: \"selftest.inst.wasm\"\n", Some(301), None),
@@ -150,29 +145,38 @@ const FAULTS: [(u64, &str, Option<usize>, Option<usize>); 4] = [
     ),
 ];
 
-/// No files, of whose calls one fails.
-fn failing(alloc: Global, call: u64) -> Option<MemFiles> {
-    let fails = Vec::from_slice(alloc, &[call]).ok()?;
-    let parts = Vec::from_slice(alloc, &[Part { call, bytes: 10 }]).ok()?;
-    let mut files = MemFiles::new(alloc, fails);
-    files.take_parts(parts);
-    Some(files)
+const NAMES: [&str; 2] = ["selftest.wasm", "selftest.inst.wasm"];
+
+/// The number of the first row that does not hold, if there is one.
+fn first_wrong(alloc: Global, rows: &[Row]) -> Option<usize> {
+    for (number, row) in rows.iter().enumerate() {
+        if !tests_itself(alloc, row) {
+            return Some(number);
+        }
+    }
+    None
 }
 
-fn is_named(alloc: Global, row: &(u64, &str, Option<usize>, Option<usize>)) -> bool {
-    match failing(alloc, row.0) {
-        Some(mut files) => {
-            answers(alloc, ["selftest", "2"], &mut files, (4, row.1))
-                && length(files.get("selftest.wasm")) == row.2
-                && length(files.get("selftest.inst.wasm")) == row.3
-        }
-        None => false,
-    }
+#[test]
+fn modules_test_themselves(rt: HostRuntime) {
+    assert_eq!(rt; first_wrong(rt.alloc(), &ROWS), None);
+}
+
+#[test]
+fn the_largest_module_tests_itself(rt: HostRuntime) {
+    assert!(rt; tests_itself(rt.alloc(), &MOST));
+}
+
+#[test]
+fn the_call_tells_what_the_command_does(rt: HostRuntime) {
+    assert!(rt; is_called(rt.alloc()));
 }
 
 #[test]
 fn a_failing_file_is_named(rt: HostRuntime) {
-    for row in &FAULTS {
-        assert!(rt; is_named(rt.alloc(), row), "{}", row.0);
-    }
+    let line = ["selftest", "2"];
+    assert_eq!(rt;
+        first_wrong_fault(rt.alloc(), &EMPTY, line, NAMES, &FAULTS),
+        None
+    );
 }

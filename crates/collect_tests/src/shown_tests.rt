@@ -62,7 +62,10 @@ const NO_KIND: [CollectorCall; 1] = [CollectorCall::Frame {
     locals: 0,
 }];
 
-const ROWS: [(Ending, &[CollectorCall], Wanted); 12] = [
+/// How an invocation ends, the calls of the collector, and how it is to be shown.
+type Row = (Ending, &'static [CollectorCall], Wanted);
+
+const ROWS: [Row; 12] = [
     (Ending::Finished, &NONE, Wanted::AsRun),
     (Ending::Finished, &WHOLE, Wanted::Torn(0)),
     (Ending::Finished, &TOO_FEW, Wanted::Torn(1)),
@@ -88,18 +91,11 @@ fn answer(ending: Ending) -> RunEnd {
     }
 }
 
-fn is_unreachable(kind: TrapKind) -> bool {
-    match kind {
-        TrapKind::Unreachable => true,
-        _ => false,
-    }
-}
-
 fn is_wanted(shown: &Shown<'_>, wanted: Wanted) -> bool {
     match (shown, wanted) {
         (Shown::AsRun, Wanted::AsRun) => true,
         (Shown::Collected(collected), Wanted::Dump(kind)) => collected.kind == kind,
-        (Shown::NoDump { kind }, Wanted::NoDump) => is_unreachable(*kind),
+        (Shown::NoDump { kind }, Wanted::NoDump) => *kind == TrapKind::Unreachable,
         (Shown::Torn { at }, Wanted::Torn(index)) => *at == index,
         _ => false,
     }
@@ -113,9 +109,17 @@ fn shows(alloc: Global, ending: Ending, calls: &[CollectorCall], wanted: Wanted)
     }
 }
 
+/// The number of the first row that does not hold, if there is one.
+fn first_wrong(alloc: Global, rows: &[Row]) -> Option<usize> {
+    for (number, row) in rows.iter().enumerate() {
+        if !shows(alloc, row.0, row.1, row.2) {
+            return Some(number);
+        }
+    }
+    None
+}
+
 #[test]
 fn ending_and_calls_decide(rt: HostRuntime) {
-    for (ending, calls, wanted) in ROWS {
-        assert!(rt; shows(rt.alloc(), ending, calls, wanted));
-    }
+    assert_eq!(rt; first_wrong(rt.alloc(), &ROWS), None);
 }

@@ -1,7 +1,6 @@
 //! What `instrument` says of modules and what it writes. Weights are sums of parts by hand.
 
-use crate::trial::{answers, begins, files_of, length};
-use pm_outside::{MemFiles, Part};
+use crate::trial::{Fault, answers, files_of, first_wrong_fault, is_rewritten};
 use std::alloc::Global;
 use test_modules::{DIVISION, EMPTY, NESTED, TAKEN_NAME};
 use wasm_decode::decode;
@@ -23,36 +22,24 @@ const WEIGHTS: [Row; 2] = [
     ),
 ];
 
-/// Whether the module in `m` is rewritten so, and not a second time.
-fn is_weighed(alloc: Global, files: &mut MemFiles, row: &Row) -> bool {
-    answers(alloc, ["instrument m", "i"], files, (0, row.1))
-        && answers(alloc, ["check", "i"], files, (0, row.2))
-        && answers(
-            alloc,
-            ["instrument i", "j"],
-            files,
-            (14, "collision: import 0\n"),
-        )
-        && files.get("j").is_none()
-}
-
+/// Whether a module is rewritten so, and not a second time.
 fn weighs(alloc: Global, row: &Row) -> bool {
-    match files_of(alloc, row.0, "") {
-        Ok(mut files) => is_weighed(alloc, &mut files, row),
+    let wanted = (14, "collision: import 0\n");
+    match files_of(alloc, row.0, b"") {
+        Ok(mut files) => {
+            answers(alloc, ["instrument m", "i"], &mut files, (0, row.1))
+                && answers(alloc, ["check", "i"], &mut files, (0, row.2))
+                && answers(alloc, ["instrument i", "j"], &mut files, wanted)
+                && files.get("j").is_none()
+        }
         Err(_) => false,
     }
 }
 
-#[test]
-fn weights_are_told(rt: HostRuntime) {
-    for row in &WEIGHTS {
-        assert!(rt; weighs(rt.alloc(), row), "{}", row.1);
-    }
-}
-
+/// Whether the name of the memory is taken.
 fn is_refused(alloc: Global) -> bool {
     let wanted = (14, "collision: export 0\n");
-    match files_of(alloc, &TAKEN_NAME, "") {
+    match files_of(alloc, &TAKEN_NAME, b"") {
         Ok(mut files) => {
             answers(alloc, ["instrument m", "i"], &mut files, wanted) && files.get("i").is_none()
         }
@@ -60,46 +47,43 @@ fn is_refused(alloc: Global) -> bool {
     }
 }
 
+/// The call of `Files` that fails, the file that is named, and how many bytes of the written file
+/// are there. The module is read in two calls; then the file is made, and its bytes are added at
+/// once, of which ten are taken.
+const FAULTS: [Fault<'static>; 4] = [
+    (0, "file fault: \"m\"\n", None, None),
+    (1, "file fault: \"m\"\n", None, None),
+    (2, "file fault: \"i\"\n", None, None),
+    (3, "file fault: \"i\"\n", Some(10), None),
+];
+
+/// The number of the first row that does not hold, if there is one.
+fn first_wrong(alloc: Global, rows: &[Row]) -> Option<usize> {
+    for (number, row) in rows.iter().enumerate() {
+        if !weighs(alloc, row) {
+            return Some(number);
+        }
+    }
+    None
+}
+
+#[test]
+fn weights_are_told(rt: HostRuntime) {
+    assert_eq!(rt; first_wrong(rt.alloc(), &WEIGHTS), None);
+}
+
 #[test]
 fn the_name_of_the_memory_is_taken(rt: HostRuntime) {
     assert!(rt; is_refused(rt.alloc()));
 }
 
-/// The call of `Files` that fails, the file that is named, and how many bytes of the written file
-/// are there. The module is read in two calls; then the file is made, and its bytes are added at
-/// once, of which ten are taken.
-const FAULTS: [(u64, &str, Option<usize>); 4] = [
-    (0, "file fault: \"m\"\n", None),
-    (1, "file fault: \"m\"\n", None),
-    (2, "file fault: \"i\"\n", None),
-    (3, "file fault: \"i\"\n", Some(10)),
-];
-
-/// Files with a module in `m`, of whose calls one fails.
-fn failing(alloc: Global, call: u64) -> Option<MemFiles> {
-    let fails = Vec::from_slice(alloc, &[call]).ok()?;
-    let parts = Vec::from_slice(alloc, &[Part { call: 3, bytes: 10 }]).ok()?;
-    let mut files = MemFiles::new(alloc, fails);
-    files.take_parts(parts);
-    files.add("m", &DIVISION).ok()?;
-    Some(files)
-}
-
-fn is_named(alloc: Global, call: u64, text: &str, left: Option<usize>) -> bool {
-    match failing(alloc, call) {
-        Some(mut files) => {
-            answers(alloc, ["instrument m", "i"], &mut files, (4, text))
-                && length(files.get("i")) == left
-        }
-        None => false,
-    }
-}
-
 #[test]
 fn a_failing_file_is_named(rt: HostRuntime) {
-    for (call, text, left) in FAULTS {
-        assert!(rt; is_named(rt.alloc(), call, text, left), "{call}");
-    }
+    let line = ["instrument m", "i"];
+    assert_eq!(rt;
+        first_wrong_fault(rt.alloc(), &DIVISION, line, ["i", "j"], &FAULTS),
+        None
+    );
 }
 
 /// Whether a local is one of eight slots, in a body without locals of its own. Behind four of type
@@ -141,15 +125,8 @@ fn is_kept(alloc: Global, bytes: Option<&[u8]>) -> bool {
 }
 
 fn constants_are_not_stored(alloc: Global) -> bool {
-    match files_of(alloc, &NESTED, "") {
-        Ok(mut files) => {
-            begins(
-                alloc,
-                ["instrument m", "i"],
-                &mut files,
-                "instrumented weight ",
-            ) && is_kept(alloc, files.get("i"))
-        }
+    match files_of(alloc, &NESTED, b"") {
+        Ok(mut files) => is_rewritten(alloc, &mut files) && is_kept(alloc, files.get("i")),
         Err(_) => false,
     }
 }

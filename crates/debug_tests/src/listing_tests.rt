@@ -1,15 +1,9 @@
-//! Listings of recorded values, and the dump of a match.
+//! Listings of recorded values.
 
-use crate::cases::{DIVISION, DIVISION_DUMP, valid};
-use causes::NoMemory;
 use debugger::push_listing;
-use dump_format::decode_dump;
-use dump_match::matches;
 use pm_text::Text;
 use std::alloc::Global;
-use std::test::Fail;
 use wasm_syntax::Seen;
-use wasm_validate::Validated;
 
 /// Recorded values, how many there are where none is recorded, and the lines.
 type Row<'a> = (&'a [Seen], u32, &'a str);
@@ -25,47 +19,14 @@ const ROWS: [Row<'static>; 4] = [
     (&[Seen::I32(0)], 0, "local 0 i32:0\n"),
 ];
 
-fn is_listed(alloc: Global, row: &Row<'_>) -> Result<bool, NoMemory> {
+fn is_listed(alloc: Global, row: &Row<'_>) -> bool {
     let mut text = Text::new(alloc);
-    push_listing(&mut text, "local", row.0, row.1)?;
-    Ok(text.as_str() == row.2)
-}
-
-/// The number of the first row that is listed otherwise, or how many rows there are.
-fn first_wrong(alloc: Global, rows: &[Row<'_>]) -> Result<usize, NoMemory> {
-    for (i, row) in rows.iter().enumerate() {
-        if !is_listed(alloc, row)? {
-            return Ok(i);
-        }
-    }
-    Ok(rows.len())
+    push_listing(&mut text, "local", row.0, row.1).is_ok() && text.as_str() == row.2
 }
 
 #[test]
-fn values_are_listed(rt: HostRuntime) -> Result<(), Fail> {
-    assert_eq!(rt; first_wrong(rt.alloc(), &ROWS)?, ROWS.len());
-    Ok(())
-}
-
-/// How many frames a dump has, where it can be one of the module.
-fn frames_of(alloc: Global, m: &Validated, dump: &[u8]) -> Option<usize> {
-    match decode_dump(alloc, dump) {
-        Ok(dump) => match matches(alloc, m, &dump) {
-            Ok(_) => Some(dump.frames.len()),
-            Err(_) => None,
-        },
-        Err(_) => None,
+fn values_are_listed(rt: HostRuntime) {
+    for row in &ROWS {
+        assert!(rt; is_listed(rt.alloc(), row), "{}", row.2);
     }
-}
-
-fn frames(alloc: Global, module_bytes: &[u8], dump: &[u8]) -> Option<usize> {
-    match valid(alloc, module_bytes) {
-        Some(m) => frames_of(alloc, &m, dump),
-        None => None,
-    }
-}
-
-#[test]
-fn a_dump_matches_its_module(rt: HostRuntime) {
-    assert_eq!(rt; frames(rt.alloc(), &DIVISION, &DIVISION_DUMP), Some(1));
 }

@@ -88,12 +88,22 @@ fn stands(m: &Validated, at: u32, types: Option<&[ValType]>) -> bool {
     }
 }
 
-fn has_types_everywhere(m: &Validated) -> bool {
-    TYPES.iter().all(|row| stands(m, row.0, row.1))
+fn have_types(m: &Validated, rows: &[(u32, Option<&[ValType]>)]) -> bool {
+    for row in rows {
+        if !stands(m, row.0, row.1) {
+            return false;
+        }
+    }
+    true
 }
 
-fn has_numbers(m: &Validated) -> bool {
-    NUMBERS.iter().all(|row| m.op_at(row.0, row.1) == row.2)
+fn have_numbers(m: &Validated, rows: &[(u32, u32, Option<u32>)]) -> bool {
+    for row in rows {
+        if m.op_at(row.0, row.1) != row.2 {
+            return false;
+        }
+    }
+    true
 }
 
 fn has_heights(m: &Validated) -> bool {
@@ -103,36 +113,14 @@ fn has_heights(m: &Validated) -> bool {
     }
 }
 
-/// What is asked of [`BRANCHES`].
-#[derive(Clone, Copy)]
-enum Asked {
-    Numbers,
-    Types,
-    Heights,
-}
-
-fn holds(alloc: Global, asked: Asked) -> bool {
+fn are_told(alloc: Global) -> bool {
     match valid(alloc, &BRANCHES) {
-        Some(m) => match asked {
-            Asked::Numbers => has_numbers(&m),
-            Asked::Types => has_types_everywhere(&m),
-            Asked::Heights => has_heights(&m),
-        },
+        Some(m) => have_numbers(&m, &NUMBERS) && have_types(&m, &TYPES) && has_heights(&m),
         None => false,
     }
 }
 
 #[test]
-fn instructions_are_found_by_their_offsets(rt: HostRuntime) {
-    assert!(rt; holds(rt.alloc(), Asked::Numbers));
-}
-
-#[test]
-fn operands_before_instructions(rt: HostRuntime) {
-    assert!(rt; holds(rt.alloc(), Asked::Types));
-}
-
-#[test]
-fn heights_of_a_module(rt: HostRuntime) {
-    assert!(rt; holds(rt.alloc(), Asked::Heights));
+fn instructions_have_numbers_operands_and_heights(rt: HostRuntime) {
+    assert!(rt; are_told(rt.alloc()));
 }

@@ -6,7 +6,6 @@ use crate::trial::{answers, files_of, status_alone, words_of};
 use causes::NoMemory;
 use pm_outside::{MemFiles, MemSink, Part};
 use std::alloc::{AllocError, Global};
-use std::test::Fail;
 use test_modules::{DIVISION, DIVISION_DUMP, READING, SOURCE};
 
 /// What a call of `Files` does with its file.
@@ -282,8 +281,8 @@ fn is_fault(
 /// Whether each call of the files may fail.
 fn files_may_fail(alloc: Global, words: &[String], done: &MemFiles, row: &Row) -> bool {
     for made in 1..row.calls.len() + 1 {
-        for part in PARTS {
-            if !is_fault(alloc, words, done, row, &row.calls[..made], part) {
+        for part in &PARTS {
+            if !is_fault(alloc, words, done, row, &row.calls[..made], *part) {
                 return false;
             }
         }
@@ -326,7 +325,25 @@ fn is_done(
         && are_left(&files, done, row, row.calls, usize::MAX)
 }
 
-/// Whether the output may fail, which then has a front of the text.
+/// Whether the output fails behind this part of its piece, and then has that front of the text.
+fn output_is_cut(
+    alloc: Global,
+    words: &[String],
+    done: &MemFiles,
+    row: &Row,
+    text: &[u8],
+    part: usize,
+) -> bool {
+    match failing_output(alloc, part) {
+        Ok(mut out) => {
+            is_done(alloc, words, done, row, &mut out, 4)
+                && is_front(Some(out.bytes()), Some(text), Some(part))
+        }
+        Err(_) => false,
+    }
+}
+
+/// Whether the output may fail behind each part.
 fn output_may_fail(
     alloc: Global,
     words: &[String],
@@ -334,91 +351,99 @@ fn output_may_fail(
     row: &Row,
     text: &[u8],
 ) -> bool {
-    for part in PARTS {
-        let Ok(mut out) = failing_output(alloc, part) else {
-            return false;
-        };
-        if !is_done(alloc, words, done, row, &mut out, 4)
-            || !is_front(Some(out.bytes()), Some(text), Some(part))
-        {
+    for part in &PARTS {
+        if !output_is_cut(alloc, words, done, row, text, *part) {
             return false;
         }
     }
     true
 }
 
-/// The files behind the lines before.
-fn prepared(alloc: Global, row: &Row) -> Result<MemFiles, Fail> {
-    let mut files = files_of(alloc, row.source, row.replies)?;
-    for (line, status) in row.before {
-        let words = words_of(alloc, line)?;
-        let mut out = MemSink::new(alloc, Vec::new(alloc));
-        if status_alone(alloc, &words, &mut files, &mut out) != *status {
-            return Err(Fail::from("a line before has another status"));
+/// The status of a line.
+fn status_of(alloc: Global, line: &str, files: &mut MemFiles) -> Option<u8> {
+    match words_of(alloc, line) {
+        Ok(words) => {
+            let mut out = MemSink::new(alloc, Vec::new(alloc));
+            Some(status_alone(alloc, &words, files, &mut out))
+        }
+        Err(_) => None,
+    }
+}
+
+/// Whether the lines before have their statuses.
+fn is_prepared(alloc: Global, files: &mut MemFiles, row: &Row) -> bool {
+    for before in row.before {
+        if status_of(alloc, before.0, files) != Some(before.1) {
+            return false;
         }
     }
-    Ok(files)
+    true
+}
+
+/// Whether the line is done once more, with the same text, and each call may fail.
+fn is_repeated(alloc: Global, words: &[String], done: &MemFiles, row: &Row, text: &[u8]) -> bool {
+    let mut out = MemSink::new(alloc, Vec::new(alloc));
+    is_done(alloc, words, done, row, &mut out, row.status)
+        && out.bytes() == text
+        && files_may_fail(alloc, words, done, row)
+        && output_may_fail(alloc, words, done, row, text)
+}
+
+/// Whether a row holds of files and of its words.
+fn holds_of(alloc: Global, words: &[String], files: &mut MemFiles, row: &Row) -> bool {
+    let mut whole = MemSink::new(alloc, Vec::new(alloc));
+    is_prepared(alloc, files, row)
+        && status_alone(alloc, words, files, &mut whole) == row.status
+        && is_repeated(alloc, words, files, row, whole.bytes())
+}
+
+fn holds_in(alloc: Global, files: &mut MemFiles, row: &Row) -> bool {
+    match words_of(alloc, row.line) {
+        Ok(words) => holds_of(alloc, &words, files, row),
+        Err(_) => false,
+    }
 }
 
 /// Whether a row holds.
-fn holds(alloc: Global, row: &Row) -> Result<bool, Fail> {
-    let mut done = prepared(alloc, row)?;
-    let words = words_of(alloc, row.line)?;
-    let mut whole = MemSink::new(alloc, Vec::new(alloc));
-    if status_alone(alloc, &words, &mut done, &mut whole) != row.status {
-        return Ok(false);
+fn holds(alloc: Global, row: &Row) -> bool {
+    match files_of(alloc, row.source, row.replies) {
+        Ok(mut files) => holds_in(alloc, &mut files, row),
+        Err(_) => false,
     }
-    let mut out = MemSink::new(alloc, Vec::new(alloc));
-    Ok(
-        is_done(alloc, &words, &done, row, &mut out, row.status)
-            && out.bytes() == whole.bytes()
-            && files_may_fail(alloc, &words, &done, row)
-            && output_may_fail(alloc, &words, &done, row, whole.bytes()),
-    )
+}
+
+/// The number of the first row that does not hold, if there is one.
+fn first_wrong(alloc: Global, rows: &[Row]) -> Option<usize> {
+    for (i, row) in rows.iter().enumerate() {
+        if !holds(alloc, row) {
+            return Some(i);
+        }
+    }
+    None
 }
 
 #[test]
-fn faults_of_a_division(rt: HostRuntime) -> Result<(), Fail> {
-    for row in &DIVIDING {
-        assert!(rt; holds(rt.alloc(), row)?, "{}", row.line);
-    }
-    Ok(())
-}
-
-#[test]
-fn faults_with_a_memory(rt: HostRuntime) -> Result<(), Fail> {
-    for row in &SERVED {
-        assert!(rt; holds(rt.alloc(), row)?, "{}", row.line);
-    }
-    Ok(())
-}
-
-#[test]
-fn faults_of_a_debugger(rt: HostRuntime) -> Result<(), Fail> {
-    for row in &DEBUGGED {
-        assert!(rt; holds(rt.alloc(), row)?, "{}", row.line);
-    }
-    Ok(())
-}
-
-#[test]
-fn faults_of_a_self_test(rt: HostRuntime) -> Result<(), Fail> {
-    for row in &TESTED {
-        assert!(rt; holds(rt.alloc(), row)?, "{}", row.line);
-    }
-    Ok(())
+fn each_call_may_fail(rt: HostRuntime) {
+    assert_eq!(rt; first_wrong(rt.alloc(), &DIVIDING), None);
+    assert_eq!(rt; first_wrong(rt.alloc(), &SERVED), None);
+    assert_eq!(rt; first_wrong(rt.alloc(), &DEBUGGED), None);
+    assert_eq!(rt; first_wrong(rt.alloc(), &TESTED), None);
 }
 
 const TRAPPED: &str = "trap 2 integer divide by zero\nat function 0 offset 5\nhost calls 0\n";
 
+const DUMP: &[u8] = &DIVISION_DUMP;
+
 /// Whether the dump of a division, of whose module each read gives one byte, has these bytes.
 fn is_read_by_bytes(alloc: Global) -> bool {
-    let Ok(mut files) = files_of(alloc, &DIVISION, "") else {
-        return false;
-    };
-    files.limit_reads(1);
-    answers(alloc, "run;m;div;i32:7;i32:0", &mut files, (1, TRAPPED))
-        && files.get("core.wasm") == Some(DIVISION_DUMP.as_slice())
+    match files_of(alloc, &DIVISION, "") {
+        Ok(mut files) => {
+            files.limit_reads(1);
+            answers(alloc, "run;m;div;i32:7;i32:0", &mut files, (1, TRAPPED))
+                && files.get("core.wasm") == Some(DUMP)
+        }
+        Err(_) => false,
+    }
 }
 
 #[test]

@@ -5,7 +5,6 @@
 use crate::trial::{answers, files_of, status_alone, words_of};
 use pm_outside::{MemFiles, MemSink};
 use std::alloc::{AllocError, Global};
-use std::test::Fail;
 use test_modules::{DIVISION, DIVISION_DUMP, SOURCE};
 
 /// The status of words over a file `m` of these bytes.
@@ -40,25 +39,28 @@ fn first_wrong_front(
     None
 }
 
-// There the header, the types, the code and each custom section end. Between the types and the code
-// the bodies of a declared function are missing.
-#[test]
-fn fronts_of_a_module_are_checked(rt: HostRuntime) -> Result<(), Fail> {
-    let words = words_of(rt.alloc(), "check;m")?;
-    let lengths = [8, 16, 92, 211, 355, 424];
-    let wrong = first_wrong_front(rt.alloc(), &words, &SOURCE, &lengths, 5);
-    assert!(rt; wrong.is_none(), "{wrong:?}");
-    Ok(())
+/// A line, a file, the lengths of the fronts of it that get status 0, and the status of the others.
+const FRONTS: [(&str, &[u8], &[usize], u8); 2] = [
+    // There the header, the types, the code and each custom section end. Between the types and the
+    // code the bodies of a declared function are missing.
+    ("check;m", &SOURCE, &[8, 16, 92, 211, 355, 424], 5),
+    // There the sections end, of which only the first one, `core`, has to be there.
+    ("show;m", &DIVISION_DUMP, &[23, 46, 67, 100], 11),
+];
+
+/// The first length that is judged otherwise, or 0 where memory is wanting.
+fn first_wrong(alloc: Global, row: &(&str, &[u8], &[usize], u8)) -> Option<usize> {
+    match words_of(alloc, row.0) {
+        Ok(words) => first_wrong_front(alloc, &words, row.1, row.2, row.3),
+        Err(_) => Some(0),
+    }
 }
 
-// There the sections end, of which only the first one, `core`, has to be there.
 #[test]
-fn fronts_of_a_dump_are_shown(rt: HostRuntime) -> Result<(), Fail> {
-    let words = words_of(rt.alloc(), "show;m")?;
-    let lengths = [23, 46, 67, 100];
-    let wrong = first_wrong_front(rt.alloc(), &words, &DIVISION_DUMP, &lengths, 11);
-    assert!(rt; wrong.is_none(), "{wrong:?}");
-    Ok(())
+fn fronts_are_judged(rt: HostRuntime) {
+    for row in &FRONTS {
+        assert_eq!(rt; first_wrong(rt.alloc(), row), None);
+    }
 }
 
 /// The bytes with another one at a place.
@@ -87,33 +89,43 @@ fn valid_at(alloc: Global, words: &[String], at: usize) -> Option<u32> {
 }
 
 /// The sum over all places.
-fn valid_in_all(alloc: Global) -> Option<u32> {
-    let words = words_of(alloc, "check;m").ok()?;
+fn valid_in_all(alloc: Global, words: &[String]) -> Option<u32> {
     let mut valid = 0u32;
     for at in 0..DIVISION.len() {
-        valid = valid.saturating_add(valid_at(alloc, &words, at)?);
+        valid = valid.saturating_add(valid_at(alloc, words, at)?);
     }
     Some(valid)
+}
+
+fn count_valid(alloc: Global) -> Option<u32> {
+    match words_of(alloc, "check;m") {
+        Ok(words) => valid_in_all(alloc, &words),
+        Err(_) => None,
+    }
 }
 
 // Of these 10,496 modules `wasm-validate` accepts as many.
 #[test]
 fn each_byte_of_a_module_is_replaced(rt: HostRuntime) {
-    let valid = valid_in_all(rt.alloc());
-    assert!(rt; valid == Some(458), "{valid:?}");
+    assert_eq!(rt; count_valid(rt.alloc()), Some(458));
 }
 
 /// Where the contents of the section `.debug_info` of [`SOURCE`] stand.
 const INFO: (usize, usize) = (226, 355);
 
+/// Whether words get status 0 with 0xff at a place of the module.
+fn is_passed_over(alloc: Global, words: &[String], files: &mut MemFiles, at: usize) -> bool {
+    let Ok(copy) = replaced(alloc, &SOURCE, at, 0xFF) else {
+        return false;
+    };
+    let mut out = MemSink::new(alloc, Vec::new(alloc));
+    files.add("m", &copy).is_ok() && status_alone(alloc, words, files, &mut out) == 0
+}
+
 /// The first place there at which 0xff is refused.
-fn first_refused(alloc: Global, files: &mut MemFiles) -> Option<usize> {
-    let words = words_of(alloc, "debug;m;core.wasm;bt;vars;print s.b[1];print *p").ok()?;
+fn first_refused(alloc: Global, words: &[String], files: &mut MemFiles) -> Option<usize> {
     for at in INFO.0..INFO.1 {
-        let copy = replaced(alloc, &SOURCE, at, 0xFF).ok()?;
-        files.add("m", &copy).ok()?;
-        let mut out = MemSink::new(alloc, Vec::new(alloc));
-        if status_alone(alloc, &words, files, &mut out) != 0 {
+        if !is_passed_over(alloc, words, files, at) {
             return Some(at);
         }
     }
@@ -122,14 +134,27 @@ fn first_refused(alloc: Global, files: &mut MemFiles) -> Option<usize> {
 
 const DIED: &str = "trap 4 out of bounds memory access\nat function 0 offset 43\nhost calls 0\n";
 
+/// The same behind a run that traps. It is 0 where the run does not, or memory is wanting.
+fn first_refused_behind(alloc: Global, words: &[String]) -> Option<usize> {
+    let Ok(mut files) = files_of(alloc, &SOURCE, "") else {
+        return Some(0);
+    };
+    if !answers(alloc, "run;m;f;i32:65536", &mut files, (1, DIED)) {
+        return Some(0);
+    }
+    first_refused(alloc, words, &mut files)
+}
+
+fn first_not_debugged(alloc: Global) -> Option<usize> {
+    match words_of(alloc, "debug;m;core.wasm;bt;vars;print s.b[1];print *p") {
+        Ok(words) => first_refused_behind(alloc, &words),
+        Err(_) => Some(0),
+    }
+}
+
 // What can't be read of debugging information is passed over, so that the commands are done
 // whatever it holds.
 #[test]
-fn each_byte_of_debugging_information_is_replaced(rt: HostRuntime) -> Result<(), Fail> {
-    let alloc = rt.alloc();
-    let mut files = files_of(alloc, &SOURCE, "")?;
-    assert!(rt; answers(alloc, "run;m;f;i32:65536", &mut files, (1, DIED)));
-    let refused = first_refused(alloc, &mut files);
-    assert!(rt; refused.is_none(), "{refused:?}");
-    Ok(())
+fn each_byte_of_debugging_information_is_replaced(rt: HostRuntime) {
+    assert_eq!(rt; first_not_debugged(rt.alloc()), None);
 }

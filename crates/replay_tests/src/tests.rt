@@ -1,5 +1,6 @@
-//! Steps by lines, which `step_tests` asks for. The rows of the line program are those that llvm-dwarfdump 14 prints, and the
-//! steps of each line are the instructions between its row and the next one.
+//! Steps by lines, which `step_tests` asks for. The rows of the line program are those that
+//! llvm-dwarfdump 14 prints, and the steps of each line are the instructions between its row and
+//! the next one.
 
 ghost use Rattle.std.specs.Prelude.{true, false, [], None};
 ghost use Rattle.wasm_machine.specs.calls.Instances.{IsNew};

@@ -139,15 +139,33 @@ const REFUSED: [&[&str]; 9] = [
     &["m", "log", "f", "--collect"],
 ];
 
+fn is_refused(alloc: Global, words: &[&str]) -> bool {
+    matches!(read(alloc, words), Err(WordsFault::Usage))
+}
+
+/// The number of the first move that is read otherwise.
+fn first_wrong_move() -> Option<usize> {
+    for (i, row) in MOVES.iter().enumerate() {
+        if read_move(row.0) != row.1 {
+            return Some(i);
+        }
+    }
+    None
+}
+
+/// The number of the first words that are not refused.
+fn first_accepted(alloc: Global) -> Option<usize> {
+    for (i, words) in REFUSED.iter().enumerate() {
+        if !is_refused(alloc, words) {
+            return Some(i);
+        }
+    }
+    None
+}
+
 #[test]
 fn moves_and_words_are_read_or_refused(rt: HostRuntime) {
-    for (text, wanted) in &MOVES {
-        assert!(rt; read_move(text) == *wanted);
-    }
-    for meant in &MEANT {
-        assert!(rt; is_meant(rt.alloc(), meant));
-    }
-    for words in &REFUSED {
-        assert!(rt; matches!(read(rt.alloc(), words), Err(WordsFault::Usage)));
-    }
+    assert_eq!(rt; first_wrong_move(), None);
+    assert!(rt; is_meant(rt.alloc(), &MEANT[0]) && is_meant(rt.alloc(), &MEANT[1]));
+    assert_eq!(rt; first_accepted(rt.alloc()), None);
 }

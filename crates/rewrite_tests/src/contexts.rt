@@ -5,7 +5,7 @@ use crate::{exit_tests, guard_tests, piece_tests};
 use causes::NoMemory;
 use index_map::IndexMap;
 use pm_text::Items;
-use rewrite_code::{Derivation, FunctionContext, Landings, Offsets};
+use rewrite_code::{Derivation, Exits, FunctionContext, Landings, Offsets};
 use std::alloc::Global;
 use wasm_syntax::{ModuleParts, ValType};
 
@@ -51,13 +51,17 @@ fn writes_in(
     if locals.len() > 6 {
         return false;
     }
-    let landings = Landings::new(alloc);
+    let exits = Exits {
+        landings: Landings::new(alloc),
+        exposed: guarded,
+        derivations: derived,
+    };
     let gives = Some(ValType::I32);
     let index = match what {
         Written::Pieces => 1,
         _ => 0,
     };
-    let context = FunctionContext::new(map, locals, 4, index, gives, landings, guarded, derived);
+    let context = FunctionContext::new(map, locals, 4, index, gives, exits);
     match what {
         Written::Exit => exit_tests::has_exit(alloc, &context),
         Written::Guards => guard_tests::all_leave(alloc, &context),
