@@ -44,6 +44,8 @@ def differences():
         yield 'release/pm.sha256: it is not the sum of release/pm'
     if kept['kit'] != printed('rt', 'version'):
         print(f"note: release/pm was built with {kept['kit']}, and another kit is here, so its bits are not compared")
+    elif not BUILT.is_file():
+        yield f'{BUILT.relative_to(TOP)}: no program was built here (`rt ci` builds it), so there is none to compare'
     elif (RELEASE / 'pm').read_bytes() != BUILT.read_bytes():
         yield 'release/pm: it is not the program that the gate built'
 
